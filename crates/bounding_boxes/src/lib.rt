@@ -15,15 +15,39 @@ pub struct Extent {
     pub high: u64,
 }
 
-// The extent with a point besides.
-fn widened(e: Extent, p: Point) -> Extent
-    ensures { result ≡ widen e p }
-{
-    Extent {
-        left: plane::least(e.left, p.x),
-        right: plane::greatest(e.right, p.x),
-        low: plane::least(e.low, p.y),
-        high: plane::greatest(e.high, p.y),
+impl Extent {
+    // The extent with a point besides.
+    fn widened(self, p: Point) -> Extent
+        ensures { result ≡ widen self p }
+    {
+        Extent {
+            left: self.left.min(p.x),
+            right: self.right.max(p.x),
+            low: self.low.min(p.y),
+            high: self.high.max(p.y),
+        }
+    }
+
+    // The least box around two.
+    pub fn united(self, other: Extent) -> Extent
+        ensures { result ≡ union self other }
+    {
+        Extent {
+            left: self.left.min(other.left),
+            right: self.right.max(other.right),
+            low: self.low.min(other.low),
+            high: self.high.max(other.high),
+        }
+    }
+
+    // Whether the extents have no point in common.
+    pub fn lies_apart(self, other: Extent) -> bool
+        ensures { result ≡ boxes_apart self other }
+    {
+        self.right < other.left
+            || other.right < self.left
+            || self.high < other.low
+            || other.high < self.low
     }
 }
 
@@ -41,26 +65,7 @@ pub fn extent_of(c: &[i64]) -> Extent
     };
     let n = curves::point_count(c);
     for i in 1..n {
-        e = widened(e, curves::point_at(c, i));
+        e = e.widened(curves::point_at(c, i));
     }
     e
-}
-
-// The least box around two.
-pub fn united(e: Extent, f: Extent) -> Extent
-    ensures { result ≡ union e f }
-{
-    Extent {
-        left: plane::least(e.left, f.left),
-        right: plane::greatest(e.right, f.right),
-        low: plane::least(e.low, f.low),
-        high: plane::greatest(e.high, f.high),
-    }
-}
-
-// Whether the extents have no point in common.
-pub fn lie_apart(e: Extent, f: Extent) -> bool
-    ensures { result ≡ boxes_apart e f }
-{
-    (e.right < f.left) | (f.right < e.left) | (e.high < f.low) | (f.high < e.low)
 }

@@ -1,8 +1,8 @@
 -- The numbers of a line in a list, and the bytes of lines one after the other. Assumes nothing.
-use mathlib.Core.Path.{◌≡◌, refl, sym, ap, ◌∙◌}
+use mathlib.Core.Path.{◌≡◌, refl, sym, ap, ◌∙◌, subst}
 use mathlib.Core.List.{List, [], ◌∷◌, ◌++◌}
-use mathlib.Core.Option
-use mathlib.Core.Option.{Option, none, some}
+use Rattle.std.specs.Prelude.{Option, Some, None}
+use Rattle.std.specs.Option.{unwrap_or}
 use Prim.Native.Nat.{ℕ, suc, ◌+◌, ◌≤◌, ◌<◌}
 use native.Mathlib.Numerals.{add-one}
 use native.Mathlib.Omega.{arith}
@@ -17,38 +17,41 @@ use Rattle.curves.specs.Curves.{max_points}
 use Rattle.map.specs.Limits.{TwelvePoints, node_width, edge_width, face_width}
 use Rattle.map.specs.Rows.{Lent, lent, empty_map, head_of}
 use Rattle.map.specs.Ticket.{emptied}
-use Rattle.text.specs.declared.Parsed.{Parsed}
 use Rattle.text.specs.Parsed.{ParsedAs}
-use Rattle.console.specs.Lines.{parsed_count, line_answered, Desk, desk_of, kept_bytes, served, Bytes, DeskServed}
+use Rattle.console.specs.Lines.{line_answered, Desk, kept_bytes, served, Bytes, DeskServed}
 use Rattle.console.specs.Lines.{finished, after_input, InputServed, program_table, program_tables, ProgramServed}
 
 -- the numbers stand at the front of the list
-pub parsed_numbers : (o : Option (List ℤ)) (before : List ℤ) (r : Parsed) (after : List ℤ) → ParsedAs o before r after
-    → (parsed_count r ≤ length after) × (take (parsed_count r) after ≡ Option.get_or o [])
-parsed_numbers (some zs) before r after (e, f) =
+pub parsed_numbers : (o : Option (List ℤ)) (before : List ℤ) (r : Option ℕ) (after : List ℤ) → ParsedAs o before r after
+    → (unwrap_or r 0 ≤ length after) × (take (unwrap_or r 0) after ≡ unwrap_or o [])
+parsed_numbers (Some zs) before r after (e, f) =
     rw (e, f) (simp length-append (omega arith), take-append_seam zs (drop (length zs) before))
-parsed_numbers none before r after (e, f) = rw e (omega arith, refl)
+parsed_numbers None before r after (e, f) = rw e (omega arith, refl)
 
--- one byte more, after n bytes of a line that has not ended
-module _ (l : Lent) (buffer : List ℕ) (n b : ℕ) (size : length buffer ≡ kept_bytes) (h : n ≤ kept_bytes) where
-  count : length (take n buffer) ≡ n
-  count = length-take-le n buffer (omega arith)
+-- what holds of tables holds of those that are equal
+pub lent_as : (P : Lent → Type 0) {n e f m d g : List ℤ} {h : Head} → P (lent n e f h) → m ≡ n → d ≡ e → g ≡ f
+    → P (lent m d g h)
+lent_as P {h} p q r s = subst P (λ i. lent (sym q i) (sym r i) (sym s i) h) p
 
-  pub line-ended : (after : Lent) → b ≡ 10 → after ≡ (line_answered l (take n buffer)).lent → desk_of after buffer 0
-      ≡ served (desk_of l buffer n) b
+pub same_desk : {l m : Lent} {x y : List ℕ} → l ≡ m → x ≡ y
+    → ◌≡◌ {A = Desk} (record { lent = l; line = x }) (record { lent = m; line = y })
+same_desk e f = λ i. record { lent = e i; line = f i }
+
+-- one byte more, after a line that has not ended
+module _ (d : Desk) (b : ℕ) where
+  pub line-ended : b ≡ 10 → record { lent = (line_answered d.lent d.line).lent; line = [] } ≡ served d b
   unfolding served
-  line-ended after e q = rw (same_eq b 10 e, q)
+  line-ended e = rw (same_eq b 10 e)
 
-  pub line_longer : (b ≡ 10 → ⊥) → n < kept_bytes → desk_of l (set buffer n b) (n + 1) ≡ served (desk_of l buffer n) b
+  pub line_longer : (b ≡ 10 → ⊥) → length d.line < kept_bytes → record { lent = d.lent; line = d.line ++ b ∷ [] } ≡ served d b
   unfolding served
   line_longer e g =
-      let more = take-suc-set buffer n b (omega arith) in
-      let all = take_all kept_bytes (take n buffer ++ b ∷ []) (simp (length-append, count) (omega arith)) in
-      rw (same_false b 10 e, add-one n, more, all)
+      let all = take_all kept_bytes (d.line ++ b ∷ []) (simp length-append (omega arith)) in
+      rw (same_false b 10 e, all)
 
-  pub line-full : (b ≡ 10 → ⊥) → kept_bytes ≤ n → desk_of l buffer n ≡ served (desk_of l buffer n) b
+  pub line-full : (b ≡ 10 → ⊥) → length d.line ≡ kept_bytes → d ≡ served d b
   unfolding served
-  line-full e g = rw (same_false b 10 e, take_at (take n buffer) (b ∷ []) kept_bytes (omega (arith, count)))
+  line-full e g = rw (same_false b 10 e, take_at d.line (b ∷ []) kept_bytes g)
 
 -- the byte at i and then those after it
 pub served_turn : (d : Desk) (bytes : List ℕ) (i : ℕ) → i < length bytes → fold served d (drop i bytes)
@@ -73,15 +76,15 @@ more_served {d} bytes b s q = record {
   leaves = q ∙ ap (λ (e : Desk). fold served e bytes) s.leaves ∙ sym (fold-append served d s.bytes bytes);
 }
 
--- its end, with n bytes of a line that has not ended
-module _ (l : Lent) (buffer : List ℕ) (n : ℕ) where
-  pub finished-line : 0 < n → n ≤ length buffer → finished (desk_of l buffer n) ≡ (line_answered l (take n buffer)).lent
+-- its end, after a line that has not ended
+module _ (d : Desk) where
+  pub finished-line : (length d.line ≡ 0 → ⊥) → finished d ≡ (line_answered d.lent d.line).lent
   unfolding finished
-  finished-line h g = rw (length-take-le n buffer g, same_false n 0 (λ e. omega arith))
+  finished-line h = rw (same_false (length d.line) 0 h)
 
-  pub finished_none : n ≤ 0 → finished (desk_of l buffer n) ≡ l
+  pub finished_none : length d.line ≡ 0 → finished d ≡ d.lent
   unfolding finished
-  finished_none h = let e : n ≡ 0 = omega arith in rw (e, same_refl 0)
+  finished_none e = rw (same_eq (length d.line) 0 e)
 
 pub input_served : {start before after : Lent} {rest : Desk} → DeskServed (record { lent = start; line = [] }) rest
     → start ≡ before → after ≡ finished rest → InputServed before after

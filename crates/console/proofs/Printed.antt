@@ -13,7 +13,7 @@ use Rattle.map.specs.Limits.{TwelvePoints, node_width, edge_width, face_width}
 use Rattle.map.specs.Rows.{Lent, lent, empty_map, head_of}
 use Rattle.map.specs.Ticket.{emptied}
 use Rattle.console.specs.declared.channel.Streams.{Streams}
-use Rattle.console.specs.Lines.{Desk, desk_of, line_answered, served, finished, after_input, Bytes, DeskServed, program_table, program_tables}
+use Rattle.console.specs.Lines.{Desk, line_answered, served, finished, after_input, Bytes, DeskServed, program_table, program_tables}
 use Rattle.console.specs.Texts.{done_text}
 use Rattle.console.specs.Wrote.{Wrote}
 use Rattle.console.specs.Printed.{byte_printed, printed, rest_printed, input_printed, Took, Ends, Told, ProgramTold}
@@ -34,24 +34,22 @@ pub printed_turn : (rows : Bool) (d : Desk) (bytes : List ℕ) (i : ℕ) → i <
     ≡ byte_printed rows d (get_or bytes i 0) ++ printed rows (served d (get_or bytes i 0)) (drop (i + 1) bytes)
 printed_turn rows d bytes i h = rw (drop-cons bytes i 0 h, add-one i)
 
-module _ (rows : Bool) (l : Lent) (buffer : List ℕ) (n b : ℕ) where
-  pub ended-printed : b ≡ 10 → byte_printed rows (desk_of l buffer n) b ≡ done_text rows (line_answered l (take n buffer))
+module _ (rows : Bool) (d : Desk) where
+  pub ended-printed : (b : ℕ) → b ≡ 10 → byte_printed rows d b ≡ done_text rows (line_answered d.lent d.line)
   unfolding byte_printed
-  ended-printed e = rw (same_eq b 10 e)
+  ended-printed b e = rw (same_eq b 10 e)
 
-  pub none-printed : (b ≡ 10 → ⊥) → byte_printed rows (desk_of l buffer n) b ≡ []
+  pub none-printed : (b : ℕ) → (b ≡ 10 → ⊥) → byte_printed rows d b ≡ []
   unfolding byte_printed
-  none-printed e = rw (same_false b 10 e)
+  none-printed b e = rw (same_false b 10 e)
 
-module _ (rows : Bool) (l : Lent) (buffer : List ℕ) (n : ℕ) where
-  pub line-printed : 0 < n → n ≤ length buffer → rest_printed rows (desk_of l buffer n)
-      ≡ done_text rows (line_answered l (take n buffer))
+  pub line-printed : (length d.line ≡ 0 → ⊥) → rest_printed rows d ≡ done_text rows (line_answered d.lent d.line)
   unfolding rest_printed
-  line-printed h k = rw (length-take-le n buffer k, same_false n 0 (λ e. omega arith))
+  line-printed h = rw (same_false (length d.line) 0 h)
 
-  pub no_line_printed : n ≤ 0 → rest_printed rows (desk_of l buffer n) ≡ []
+  pub no_line_printed : length d.line ≡ 0 → rest_printed rows d ≡ []
   unfolding rest_printed
-  no_line_printed h = let e : n ≡ 0 = omega arith in rw (e, same_refl 0)
+  no_line_printed e = rw (same_eq (length d.line) 0 e)
 
 -- ---- what is taken and written
 

@@ -1,6 +1,6 @@
 -- A ticket on a line of text, the bytes of lines one after the other, and the ticket program.
 use Rattle.std.specs.Prelude.{◌≡◌, cond, List, [], ◌∷◌, ◌++◌, ℕ, suc, ◌*◌, ◌<◌, ℤ, pos, length, take, replicate}
-use Rattle.std.proofs.Math.Option.{get_or}
+use Rattle.std.specs.Option.{unwrap_or}
 use Rattle.lists.specs.Tests.{same}
 use Rattle.lists.specs.Scans.{fold}
 use Rattle.lists.specs.Members.{All}
@@ -9,18 +9,11 @@ use Rattle.curves.specs.Curves.{max_points}
 use Rattle.map.specs.Limits.{node_width, edge_width, face_width, TwelvePoints}
 use Rattle.map.specs.Rows.{Lent, lent, empty_map, head_of}
 use Rattle.map.specs.Ticket.{Outcome, ticket, emptied}
-use Rattle.text.specs.declared.Parsed.{Parsed}
-use Rattle.text.specs.declared.Parsed.TheVariants.{Numbers, Wrong}
 use Rattle.text.specs.Lines.{max_line, line_numbers}
-
--- how many numbers a line was parsed to
-abbrev pub parsed_count : Parsed → ℕ
-parsed_count (Numbers n) = n
-parsed_count Wrong = 0
 
 -- the ticket on a line: its numbers; a line that is wrong is a ticket of no numbers, which is answered 3
 abbrev pub line_ticket : List ℕ → List ℤ
-line_ticket line = get_or (line_numbers line) []
+line_ticket line = unwrap_or (line_numbers line) []
 
 unfoldable pub line_answered : Lent → List ℕ → Outcome
 line_answered l line = ticket l (line_ticket line)
@@ -29,10 +22,6 @@ line_answered l line = ticket l (line_ticket line)
 pub record Desk : Type 0 where
   pub lent : Lent
   pub line : List ℕ
-
--- with the first n bytes of a buffer as that line
-abbrev pub desk_of : Lent → List ℕ → ℕ → Desk
-desk_of l buffer n = record { lent = l; line = take n buffer }
 
 -- a line that is too long is wrong whatever follows: no more of it is kept than tells so
 abbrev pub kept_bytes : ℕ

@@ -1,17 +1,16 @@
 // Tickets as lines of text, answered as they come.
 #![tactic(auto)]
 
-ghost use Rattle.std.specs.Prelude.{◌≡◌, ◌/◌, ◌≤◌, ◌<◌, pos, length};
+ghost use Rattle.std.specs.Prelude.{◌≡◌, ◌/◌, ◌≤◌, pos, length};
 ghost use Rattle.lists.specs.Scans.{fold};
-ghost use Rattle.tables.specs.Tables.{row_at};
 ghost use Rattle.curves.specs.Curves.{max_points};
-ghost use Rattle.head.specs.Heads.{head_in};
 ghost use Rattle.map.specs.Limits.{edge_width};
 ghost use Rattle.map.specs.Loans.{lent_now};
 ghost use Rattle.map.specs.Ticket.{emptied};
 ghost use Rattle.outcomes.specs.Outcomes.{outcome_now};
-ghost use Rattle.console.specs.Lines.{parsed_count, line_answered, desk_of, kept_bytes, served, finished};
+ghost use Rattle.console.specs.Lines.{line_answered, served, finished};
 ghost use Rattle.console.specs.Lines.{Bytes, DeskServed, InputServed, ProgramServed};
+ghost use Rattle.console.specs.Desks.{desk_now, SameLoans, next_line, line_printed};
 ghost use Rattle.console.specs.Texts.{answer_text, tagged_text, head_numbers, clamp_len, TextPut};
 ghost use Rattle.console.specs.Texts.{used_text, sheet_text, done_text};
 ghost use Rattle.console.specs.Wrote.{Wrote};
@@ -19,11 +18,11 @@ ghost use Rattle.console.specs.Printed.{byte_printed, printed, rest_printed, Too
 
 mod channel;
 
+use arrayvec::ArrayVec;
 pub use channel::Streams;
 use map::{Answer, Head};
 use outcomes::Done;
 use std::io::{Read, Write};
-use text::Parsed;
 
 // The bytes of a line that are kept: one more than a line may have.
 const KEPT: usize = text::LINE + 1;
@@ -43,21 +42,14 @@ const ANSWER: usize = printing::DIGITS + printing::CELL + 1;
 // The bytes of a row, at most: a letter, the numbers of an edge and a line end.
 const ROW: usize = 1 + map::EDGE_WIDTH * printing::CELL + 1;
 
-// After some bytes of the input: the head after the lines that ended, and the length of the line that did not.
-#[derive(Clone, Copy)]
-pub struct State {
-    pub head: Head,
-    pub length: usize,
-}
-
-// How many numbers a line was parsed to.
-fn count_of(parsed: Parsed) -> usize
-    ensures { result ≡ parsed_count parsed }
-{
-    match parsed {
-        Parsed::Numbers(n) => n,
-        Parsed::Wrong => 0,
-    }
+// After some bytes of the input: the map after the lines that ended, and what is kept of the line that did not.
+#[derive(Drop)]
+struct Desk<'a> {
+    nodes: &'a mut [i64],
+    edges: &'a mut [i64],
+    faces: &'a mut [i64],
+    head: Head,
+    line: ArrayVec<u8, KEPT>,
 }
 
 // The answer to one line, which is given without its line end.
@@ -72,7 +64,7 @@ pub fn answer_line(
         ≡ line_answered (lent_now nodes.old edges.old faces.old h) line.now }
 {
     let mut list = [0i64; text::NUMBERS];
-    let n = count_of(text::parse(line, &mut list));
+    let n = text::parse(line, &mut list).unwrap_or(0);
     engine::ticket(nodes, edges, faces, h, &list[..n])
 }
 
@@ -83,9 +75,8 @@ fn put_answer(out: &mut [u8; ANSWER], answer: Answer) -> usize
     ensures { TextPut out.old (answer_text answer.refusal answer.value)
         out.new result }
 {
-    let value = answer.value;
     let at = printing::write_natural(out, 0, answer.refusal);
-    printing::write_row(out, at, &[value])
+    printing::write_row(out, at, &[answer.value])
 }
 
 // Puts a row, no longer than an edge's, after a letter.
@@ -97,43 +88,11 @@ fn put_tagged(out: &mut [u8; ROW], tag: u8, row: &[i64]) -> usize
     printing::write_row(out, 1, row)
 }
 
-// Puts the numbers of a head.
-fn put_head_numbers(out: &mut [u8; ROW], numbers: &[i64; head::WIDTH]) -> usize
-    ensures { TextPut out.old (tagged_text 72 (head_numbers (head_in numbers.now)))
-        out.new result }
-{
-    put_tagged(out, b'H', numbers)
-}
-
-// Puts the head.
-fn put_head(out: &mut [u8; ROW], h: Head) -> usize
-    ensures { TextPut out.old (tagged_text 72 (head_numbers h)) out.new result }
-{
-    let mut numbers = [0i64; head::WIDTH];
-    head::put_numbers(&mut numbers, h);
-    put_head_numbers(out, &numbers)
-}
-
-// Puts row i of a table.
-fn put_row(out: &mut [u8; ROW], tag: u8, table: &[i64], width: usize, i: usize) -> usize
-    requires { (1 ≤ width) × (width ≤ edge_width) × (i < length table.now / width) }
-    ensures { TextPut out.old (tagged_text tag (row_at width table.now i))
-        out.new result }
-{
-    let at = i * width;
-    let end = at + width;
-    put_tagged(out, tag, &table[at..end])
-}
-
 // The number from 0 to `most` that is nearest to z.
 pub fn clamp(z: i64, most: usize) -> usize
     ensures { (result ≡ clamp_len z most) × (result ≤ most) }
 {
-    if z < 0 {
-        return 0;
-    }
-    let n = z as usize;
-    if n < most { n } else { most }
+    usize::try_from(z).unwrap_or(0).min(most)
 }
 
 // Writes an answer.
@@ -145,29 +104,23 @@ fn write_answer<R: Read, W: Write>(streams: &mut Streams<R, W>, answer: Answer)
     streams.write(&out[..end]);
 }
 
+// Writes a row, no longer than an edge's, after a letter.
+fn write_tagged<R: Read, W: Write>(streams: &mut Streams<R, W>, tag: u8, row: &[i64])
+    requires { length row.now ≤ edge_width }
+    ensures { Wrote W.contents streams.old streams.new (tagged_text tag row.now) }
+{
+    let mut out = [0u8; ROW];
+    let end = put_tagged(&mut out, tag, row);
+    streams.write(&out[..end]);
+}
+
 // Writes the head.
 fn write_head<R: Read, W: Write>(streams: &mut Streams<R, W>, h: Head)
     ensures { Wrote W.contents streams.old streams.new (tagged_text 72 (head_numbers h)) }
 {
-    let mut out = [0u8; ROW];
-    let end = put_head(&mut out, h);
-    streams.write(&out[..end]);
-}
-
-// Writes row i of a table.
-fn write_row<R: Read, W: Write>(
-    streams: &mut Streams<R, W>,
-    tag: u8,
-    table: &[i64],
-    width: usize,
-    i: usize,
-)
-    requires { (1 ≤ width) × (width ≤ edge_width) × (i < length table.now / width) }
-    ensures { Wrote W.contents streams.old streams.new (tagged_text tag (row_at width table.now i)) }
-{
-    let mut out = [0u8; ROW];
-    let end = put_row(&mut out, tag, table, width, i);
-    streams.write(&out[..end]);
+    let mut numbers = [0i64; head::WIDTH];
+    head::put_numbers(&mut numbers, h);
+    write_tagged(streams, b'H', &numbers);
 }
 
 // Writes the rows of a table that are in use: as many as the head counts, as far as the table has them.
@@ -182,7 +135,8 @@ fn write_rows<R: Read, W: Write>(
     ensures { Wrote W.contents streams.old streams.new (used_text tag width table.now count) }
 {
     for i in 0..clamp(count, table.len() / width) {
-        write_row(streams, tag, table, width, i);
+        let at = i * width;
+        write_tagged(streams, tag, &table[at..at + width]);
     }
 }
 
@@ -215,158 +169,87 @@ fn write_done<R: Read, W: Write>(
     ensures { Wrote W.contents streams.old streams.new
         (done_text rows (outcome_now nodes.now edges.now faces.now done)) }
 {
-    let head = done.head;
-    let answer = done.answer;
-    write_answer(streams, answer);
+    write_answer(streams, done.answer);
     if rows {
-        write_sheet(streams, nodes, edges, faces, head);
+        write_sheet(streams, nodes, edges, faces, done.head);
     }
 }
 
 // ---- lines as they come
 
-// Answers a line and writes the answer; the head after it.
-fn serve_line<R: Read, W: Write>(
-    streams: &mut Streams<R, W>,
-    nodes: &mut [i64],
-    edges: &mut [i64],
-    faces: &mut [i64],
-    h: Head,
-    line: &[u8],
-    rows: bool,
-) -> Head
-    ensures leaves { lent_now nodes.new edges.new faces.new result
-        ≡ (line_answered (lent_now nodes.old edges.old faces.old h) line.now
-        ).lent }
-    ensures writes { Wrote W.contents streams.old streams.new
-        (done_text rows (line_answered (lent_now nodes.old edges.old faces.old h) line.now)) }
-{
-    let done = answer_line(nodes, edges, faces, h, line);
-    write_done(streams, nodes, edges, faces, done, rows);
-    let head = done.head;
-    head
-}
-
-// Takes one byte of the input: it ends a line, is kept, or is past what is kept.
-fn serve_byte<R: Read, W: Write>(
-    streams: &mut Streams<R, W>,
-    nodes: &mut [i64],
-    edges: &mut [i64],
-    faces: &mut [i64],
-    state: State,
-    line: &mut [u8],
-    b: u8,
-    rows: bool,
-) -> State
-    requires { (length line.old ≡ kept_bytes) × (state.length ≤ kept_bytes) }
-    ensures leaves { (desk_of (lent_now nodes.new edges.new faces.new result.head)
-        line.new result.length
-        ≡ served (desk_of (lent_now nodes.old edges.old faces.old state.head)
-        line.old state.length) b)
-        × (result.length ≤ kept_bytes) }
-    ensures writes { Wrote W.contents streams.old streams.new
-        (byte_printed rows (desk_of (lent_now nodes.old edges.old faces.old state.head) line.old state.length) b) }
-{
-    let n = state.length;
-    let head = state.head;
-    if b == b'\n' {
-        let next = serve_line(streams, nodes, edges, faces, head, &line[..n], rows);
-        return State {
-            head: next,
-            length: 0,
-        };
+impl Desk<'_> {
+    // Answers the line and writes the answer; the next line has no byte yet.
+    fn serve_line<R: Read, W: Write>(&mut self, streams: &mut Streams<R, W>, rows: bool)
+        ensures loans { SameLoans self.old self.new }
+        ensures leaves { desk_now self.new ≡ next_line (desk_now self.old) }
+        ensures writes { Wrote W.contents streams.old streams.new (line_printed rows (desk_now self.old)) }
+    {
+        let nodes = &mut *self.nodes;
+        let edges = &mut *self.edges;
+        let faces = &mut *self.faces;
+        let done = answer_line(nodes, edges, faces, self.head, self.line.as_slice());
+        write_done(streams, nodes, edges, faces, done, rows);
+        self.head = done.head;
+        self.line.clear();
     }
-    if n < KEPT {
-        line[n] = b;
-        return State {
-            head,
-            length: n + 1,
-        };
-    }
-    state
-}
 
-// Takes some bytes of the input, one after the other.
-fn serve_bytes<R: Read, W: Write>(
-    streams: &mut Streams<R, W>,
-    nodes: &mut [i64],
-    edges: &mut [i64],
-    faces: &mut [i64],
-    state: State,
-    line: &mut [u8],
-    bytes: &[u8],
-    rows: bool,
-) -> State
-    requires { (length line.old ≡ kept_bytes) × (state.length ≤ kept_bytes) }
-    ensures leaves { (desk_of (lent_now nodes.new edges.new faces.new result.head)
-        line.new result.length
-        ≡ fold served (desk_of (lent_now nodes.old edges.old faces.old state.head)
-        line.old state.length) bytes.now)
-        × (result.length ≤ kept_bytes) × Bytes bytes.now }
-    ensures writes { Wrote W.contents streams.old streams.new
-        (printed rows (desk_of (lent_now nodes.old edges.old faces.old state.head) line.old state.length) bytes.now) }
-{
-    let mut at = state;
-    for i in 0..bytes.len() {
-        at = serve_byte(streams, nodes, edges, faces, at, line, bytes[i], rows);
-    }
-    at
-}
-
-// Answers the input to its end. The loop has a bound that no run comes to.
-fn serve_input<R: Read, W: Write>(
-    streams: &mut Streams<R, W>,
-    nodes: &mut [i64],
-    edges: &mut [i64],
-    faces: &mut [i64],
-    h: Head,
-    line: &mut [u8],
-    rows: bool,
-) -> State
-    requires { length line.old ≡ kept_bytes }
-    ensures leaves { DeskServed (desk_of (lent_now nodes.old edges.old faces.old h) line.old 0)
-        (desk_of (lent_now nodes.new edges.new faces.new result.head) line.new result.length)
-        × (result.length ≤ kept_bytes) }
-    ensures told { (took : Took R.remaining W.contents rows streams.old streams.new
-        (desk_of (lent_now nodes.old edges.old faces.old h) line.old 0)
-        (desk_of (lent_now nodes.new edges.new faces.new result.head) line.new result.length))
-        × Ends R.remaining streams.new took.bytes }
-{
-    let mut buf = [0u8; channel::INPUT];
-    let mut state = State { head: h, length: 0 };
-    for _ in 0..u64::MAX {
-        let got = streams.read_some(&mut buf);
-        if got == 0 {
-            break;
+    // Takes one byte of the input: it ends a line, is kept, or is past what is kept.
+    fn serve_byte<R: Read, W: Write>(&mut self, streams: &mut Streams<R, W>, b: u8, rows: bool)
+        ensures loans { SameLoans self.old self.new }
+        ensures leaves { desk_now self.new ≡ served (desk_now self.old) b }
+        ensures writes { Wrote W.contents streams.old streams.new (byte_printed rows (desk_now self.old) b) }
+    {
+        if b == b'\n' {
+            self.serve_line(streams, rows);
+        } else if !self.line.is_full() {
+            self.line.push(b);
         }
-        state = serve_bytes(streams, nodes, edges, faces, state, line, &buf[..got], rows);
     }
-    state
-}
 
-// At the input's end: answers the line that has not ended, if one has begun; the head after it.
-fn serve_rest<R: Read, W: Write>(
-    streams: &mut Streams<R, W>,
-    nodes: &mut [i64],
-    edges: &mut [i64],
-    faces: &mut [i64],
-    state: State,
-    line: &[u8],
-    rows: bool,
-) -> Head
-    requires { state.length ≤ length line.now }
-    ensures leaves { lent_now nodes.new edges.new faces.new result
-        ≡ finished (desk_of (lent_now nodes.old edges.old faces.old state.head)
-        line.now state.length) }
-    ensures writes { Wrote W.contents streams.old streams.new
-        (rest_printed rows (desk_of (lent_now nodes.old edges.old faces.old state.head) line.now state.length)) }
-{
-    let n = state.length;
-    let head = state.head;
-    if 0 < n {
-        return serve_line(streams, nodes, edges, faces, head, &line[..n], rows);
+    // Takes some bytes of the input, one after the other.
+    fn serve_bytes<R: Read, W: Write>(
+        &mut self,
+        streams: &mut Streams<R, W>,
+        bytes: &[u8],
+        rows: bool,
+    )
+        ensures loans { SameLoans self.old self.new }
+        ensures leaves { desk_now self.new ≡ fold served (desk_now self.old) bytes.now }
+        ensures are_bytes { Bytes bytes.now }
+        ensures writes { Wrote W.contents streams.old streams.new (printed rows (desk_now self.old) bytes.now) }
+    {
+        for b in bytes {
+            self.serve_byte(streams, *b, rows);
+        }
     }
-    head
+
+    // Answers the input to its end. The loop has a bound that no run comes to.
+    fn serve_input<R: Read, W: Write>(&mut self, streams: &mut Streams<R, W>, rows: bool)
+        ensures loans { SameLoans self.old self.new }
+        ensures leaves { DeskServed (desk_now self.old) (desk_now self.new) }
+        ensures told { (took : Took R.remaining W.contents rows streams.old streams.new (desk_now self.old)
+            (desk_now self.new)) × Ends R.remaining streams.new took.bytes }
+    {
+        let mut buf = [0u8; channel::INPUT];
+        for _ in 0..u64::MAX {
+            let got = streams.read_some(&mut buf);
+            if got == 0 {
+                break;
+            }
+            self.serve_bytes(streams, &buf[..got], rows);
+        }
+    }
+
+    // At the input's end: answers the line that has not ended, if one has begun.
+    fn serve_rest<R: Read, W: Write>(&mut self, streams: &mut Streams<R, W>, rows: bool)
+        ensures loans { SameLoans self.old self.new }
+        ensures leaves { (desk_now self.new).lent ≡ finished (desk_now self.old) }
+        ensures writes { Wrote W.contents streams.old streams.new (rest_printed rows (desk_now self.old)) }
+    {
+        if !self.line.is_empty() {
+            self.serve_line(streams, rows);
+        }
+    }
 }
 
 // Makes the empty map, for 12 points, and answers standard input to its end, a ticket a line; the head after it. Each
@@ -386,11 +269,17 @@ pub fn serve_tables<R: Read, W: Write>(
         (emptied (lent_now nodes.old edges.old faces.old h) (pos max_points)).lent
         (lent_now nodes.new edges.new faces.new result) }
 {
-    let mut line = [0u8; KEPT];
     let empty = engine::empty_map(nodes, edges, faces, h, head::TWELVE_POINTS);
-    let start = empty.head;
-    let state = serve_input(streams, nodes, edges, faces, start, &mut line, rows);
-    serve_rest(streams, nodes, edges, faces, state, &line, rows)
+    let mut desk = Desk {
+        nodes,
+        edges,
+        faces,
+        head: empty.head,
+        line: ArrayVec::new(),
+    };
+    desk.serve_input(streams, rows);
+    desk.serve_rest(streams, rows);
+    desk.head
 }
 
 // The same in tables of `ROWS` rows.

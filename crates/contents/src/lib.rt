@@ -5,6 +5,7 @@ ghost use Rattle.std.specs.Prelude.{◌≡◌, ◌+◌, ◌*◌, ◌/◌, ◌%�
 ghost use mathlib.Core.List.{◌++◌, map, flat_map};
 ghost use Rattle.std.proofs.lemmas.List.Edits.{sets};
 ghost use Rattle.map.specs.Loans.{lent_now};
+ghost use Rattle.map.specs.Refusals.{answer_of};
 ghost use Rattle.outcomes.specs.Outcomes.{Formed};
 ghost use Rattle.lists.specs.Tests.{same};
 ghost use Rattle.nesting.specs.Contents.{line_cells, contents_of};
@@ -12,7 +13,7 @@ ghost use Rattle.map_piece_faces.specs.InFaces.{number_of};
 ghost use Rattle.outline_rows.specs.Listing.{line_at, noted_lines};
 ghost use Rattle.contents.specs.Lines.{numbered, RowThere, LinesThere};
 
-use map::{Answer, Head};
+use map::{Answer, Head, Refusal};
 
 // A line is three numbers: depth, 0 for a face or 1 for a piece, and the face number or lowest node number.
 const LINE: usize = 3;
@@ -23,9 +24,10 @@ fn number_at(nodes: &[i64], faces: &[i64], v: usize) -> i64
     ensures { result ≡ pos (number_of nodes.now faces.now (same (v % 2) 1) (v / 2)) }
 {
     if v % 2 == 1 {
-        return nodes[v / 2 * map::NODE_WIDTH];
+        nodes[v / 2 * map::NODE_WIDTH]
+    } else {
+        faces[v / 2 * map::FACE_WIDTH]
     }
-    faces[v / 2 * map::FACE_WIDTH]
 }
 
 // Writes the line of note i from `at` on.
@@ -55,9 +57,15 @@ fn write_lines(nodes: &[i64], faces: &[i64], notes: &[u16], parts: usize, list: 
 }
 
 // Lists the contents of a map in form.
-fn list_contents(nodes: &[i64], edges: &[i64], faces: &[i64], h: Head, list: &mut [i64]) -> Answer
+fn list_contents(
+    nodes: &[i64],
+    edges: &[i64],
+    faces: &[i64],
+    h: Head,
+    list: &mut [i64],
+) -> Result<i64, Refusal>
     requires { Formed nodes.now edges.now faces.now h }
-    ensures { record { list = list.new; answer = result }
+    ensures { record { list = list.new; answer = answer_of result }
         ≡ contents_of (lent_now nodes.now edges.now faces.now h) list.old }
 {
     let mut graph = [0u64; piece_faces::CELLS];
@@ -65,13 +73,28 @@ fn list_contents(nodes: &[i64], edges: &[i64], faces: &[i64], h: Head, list: &mu
     let pieces = map_piece_faces::relate_all(nodes, edges, faces, h, &mut graph);
     let parts = head::to_usize(h.faces) + pieces;
     if !outline_rows::list_all(&graph, parts, &mut notes) {
-        return outcomes::answered(28, 0);
+        return Err(Refusal::ListedTwice);
     }
     if list.len() < parts * LINE {
-        return outcomes::answered(20, 0);
+        return Err(Refusal::NoRoom);
     }
     write_lines(nodes, faces, &notes, parts, list);
-    outcomes::answered(0, (parts * LINE) as i64)
+    Ok((parts * LINE) as i64)
+}
+
+// Lists the contents of tables as they are lent.
+fn list_lent(
+    nodes: &[i64],
+    edges: &[i64],
+    faces: &[i64],
+    h: Head,
+    list: &mut [i64],
+) -> Result<i64, Refusal>
+    ensures { record { list = list.new; answer = answer_of result }
+        ≡ contents_of (lent_now nodes.now edges.now faces.now h) list.old }
+{
+    form::check_lent(nodes, edges, faces, h)?;
+    list_contents(nodes, edges, faces, h, list)
 }
 
 // Lists the contents of a sheet from the front of the list; the value is the count of numbers written. The list's
@@ -80,11 +103,5 @@ pub fn contents(nodes: &[i64], edges: &[i64], faces: &[i64], h: Head, list: &mut
     ensures { record { list = list.new; answer = result }
         ≡ contents_of (lent_now nodes.now edges.now faces.now h) list.old }
 {
-    if !form_ranges::is_whole(nodes, edges, faces) {
-        return outcomes::answered(1, 0);
-    }
-    if !form::in_form(nodes, edges, faces, h) {
-        return outcomes::answered(2, 0);
-    }
-    list_contents(nodes, edges, faces, h, list)
+    Answer::from(list_lent(nodes, edges, faces, h, list))
 }

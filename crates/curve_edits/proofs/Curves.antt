@@ -1,4 +1,5 @@
 -- The curve of a run cut, joined, reversed and without surplus points, point by point. Assumes nothing.
+use Rattle.std.specs.Prelude.{Some, None}
 use mathlib.Core.Path.{◌≡◌, sym, ap, ◌∙◌}
 use mathlib.Core.Bool.{true, false}
 use mathlib.Core.List.{List, [], ◌∷◌, ◌++◌, append_assoc}
@@ -8,7 +9,6 @@ use native.Mathlib.Omega.{arith}
 use lib.IntN.{ℤ}
 use lib.ListN.{length}
 use Rattle.lists.specs.Tables.{table}
-use Rattle.lists.specs.declared.Found.TheVariants.{At, Missing}
 use Rattle.plane.specs.declared.Point.{Point}
 use Rattle.plane.specs.Points.{same_point}
 use Rattle.plane.specs.Segments.{straight_between}
@@ -29,7 +29,7 @@ whole-points {l} run =
 -- ---- cut at m
 
 module _ {l : List ℤ} (run : Run l) (m : Point) where
-  module _ (i : ℕ) (e : first_place (curve_of l) m ≡ At i) where
+  module _ (i : ℕ) (e : first_place (curve_of l) m ≡ Some i) where
     found : Found_at (point_at l) m 0 (length l / 2 - 1) i
     found = cut_found_lem (point_at l) m (length l / 2 - 1) 0 i (rw (curve_is run) at e)
 
@@ -53,7 +53,7 @@ module _ {l : List ℤ} (run : Run l) (m : Point) where
         let n : 0 + (length l / 2 - 1) - i ≡ length l / 2 - (i + 1) = omega arith in
         rw (curve_is run) (ap (λ r. m ∷ r) (found.back_in t ∙ ap (table (point_at l) (i + 1)) n))
 
-  module _ (e : first_place (curve_of l) m ≡ Missing) where
+  module _ (e : first_place (curve_of l) m ≡ None) where
     pub front_missing : points (front m (curve_of l)) ≡ table (point_at l) 0 (length l / 2 - 0)
     front_missing =
         let n : length l / 2 - 0 ≡ suc (length l / 2 - 1) = omega (arith, two-points run) in

@@ -1,4 +1,5 @@
 -- Cut, join and reverse of the curve through f i, f (i + 1), .. in terms of places. Assumes nothing.
+use Rattle.std.specs.Prelude.{Some, None}
 use mathlib.Core.Path.{◌≡◌, refl, sym, ap, ◌∙◌, subst}
 use mathlib.Core.Logic.{◌⊎◌, inl, inr}
 use mathlib.Core.Bool.{Bool, true, false}
@@ -7,7 +8,6 @@ use Prim.Native.Nat.{ℕ, zero, suc, ◌+◌, ◌-◌, ◌≤◌, ◌<◌}
 use native.Mathlib.Nat.{add-zero}
 use native.Mathlib.Omega.{arith}
 use Rattle.lists.specs.Tables.{table, place}
-use Rattle.lists.specs.declared.Found.TheVariants.{At, Missing}
 use Rattle.lists.proofs.Bools.{which}
 use Rattle.lists.proofs.Scans.{table_last}
 use Rattle.plane.specs.declared.Point.{Point}
@@ -75,7 +75,7 @@ module _ (f : ℕ → Point) where
     at_vertex true b r h e = ap (λ q. q ∷ []) (sym (same_point-true m b e))
     at_vertex false b r h e = refl
 
-    pub cut_found_lem : (k i j : ℕ) → place (on m) i (segments_of (f i) (table f (i + 1) k)) ≡ At j → Found_at i k j
+    pub cut_found_lem : (k i j : ℕ) → place (on m) i (segments_of (f i) (table f (i + 1) k)) ≡ Some j → Found_at i k j
     cut_found_lem zero i j e = let z : ◌≡◌ {A = ℕ} 0 1 = cc in absurd (omega arith)
     cut_found_lem (suc k) i j e = pick (which (on_segment m (f i) (f (i + 1)))) (λ q. cut_found_lem k (i + 1) j q)
       where
@@ -107,26 +107,26 @@ module _ (f : ℕ → Point) where
             }
 
         pick : (on_segment m (f i) (f (i + 1)) ≡ true) ⊎ (on_segment m (f i) (f (i + 1)) ≡ false)
-            → (place (on m) (i + 1) (segments_of (f (i + 1)) (table f (i + 1 + 1) k)) ≡ At j → Found_at (i + 1) k j)
+            → (place (on m) (i + 1) (segments_of (f (i + 1)) (table f (i + 1 + 1) k)) ≡ Some j → Found_at (i + 1) k j)
             → Found_at i (suc k) j
         pick (inl q) rest =
-            let g : At i ≡ At j = rw q at e in
+            let g : Some i ≡ Some j = rw q at e in
             let h : i ≡ j = cc in
             subst (Found_at i (suc k)) h (here q)
         pick (inr q) rest = there q (rest (rw q at e))
 
     -- a curve that does not pass through m
-    pub cut_missing : (k i : ℕ) → place (on m) i (segments_of (f i) (table f (i + 1) k)) ≡ Missing
+    pub cut_missing : (k i : ℕ) → place (on m) i (segments_of (f i) (table f (i + 1) k)) ≡ None
         → cut m (f i) (table f (i + 1) k) ≡ record { front = table f (i + 1) k; back = [] }
     cut_missing zero i e = refl
     cut_missing (suc k) i e = pick (which (on_segment m (f i) (f (i + 1)))) (λ q. cut_missing k (i + 1) q)
       where
         pick : (on_segment m (f i) (f (i + 1)) ≡ true) ⊎ (on_segment m (f i) (f (i + 1)) ≡ false)
-            → (place (on m) (i + 1) (segments_of (f (i + 1)) (table f (i + 1 + 1) k)) ≡ Missing
+            → (place (on m) (i + 1) (segments_of (f (i + 1)) (table f (i + 1 + 1) k)) ≡ None
             → cut m (f (i + 1)) (table f (i + 1 + 1) k) ≡ record { front = table f (i + 1 + 1) k; back = [] })
             → cut m (f i) (table f (i + 1) (suc k)) ≡ record { front = table f (i + 1) (suc k); back = [] }
         pick (inl q) rest =
-            let g : At i ≡ Missing = rw q at e in
+            let g : Some i ≡ None = rw q at e in
             let z : ◌≡◌ {A = ℕ} 0 1 = cc in
             absurd (omega arith)
         pick (inr q) rest = rw q (ap (λ (h : Halves). record { front = f (i + 1) ∷ h.front; back = h.back })

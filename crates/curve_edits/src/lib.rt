@@ -8,7 +8,6 @@ ghost use Rattle.curves.specs.Curves.{Run, point_at, curve_of, points};
 ghost use Rattle.curves.specs.Edits.{front, back, joined, without_surplus, reversed};
 ghost use Rattle.curve_edits.specs.Lines.{line_of};
 
-use lists::Found;
 use plane::Point;
 
 // The points of a curve as the 24 numbers of an edge row, and their number.
@@ -28,37 +27,36 @@ impl Line {
             cells: [0i64; curves::CELLS],
         }
     }
-}
+    // The line with one point more.
+    fn with_point(self, p: Point) -> Line
+        requires { InRange p × (self.count < 1000) }
+        ensures { ((ps : List _) → self ≡ line_of ps → result ≡ line_of (ps ++ (p ∷ [])))
+            × (result.count ≡ self.count + 1) }
+    {
+        let n = self.count;
+        let mut cells = self.cells;
+        if n < curves::POINTS {
+            cells[n * 2] = p.x as i64;
+            cells[n * 2 + 1] = p.y as i64;
+        }
+        Line {
+            count: n + 1,
+            cells,
+        }
+    }
 
-// The line with one point more.
-fn with_point(line: Line, p: Point) -> Line
-    requires { InRange p × (line.count < 1000) }
-    ensures { ((ps : List _) → line ≡ line_of ps → result ≡ line_of (ps ++ (p ∷ []))) × (result.count ≡ line.count + 1) }
-{
-    let n = line.count;
-    let mut cells = line.cells;
-    if n < curves::POINTS {
-        let j = n * 2;
-        cells[j] = p.x as i64;
-        cells[j + 1] = p.y as i64;
+    // The line with the points from `from` on, up to and without `to`, of the curve c.
+    fn with_points(self, c: &[i64], from: usize, to: usize) -> Line
+        requires { Run c.now × (from ≤ to) × (to ≤ length c.now / 2) × (self.count < 100) }
+        ensures { ((ps : List _) → self ≡ line_of ps → result
+            ≡ line_of (ps ++ table (point_at c.now) from (to - from))) × (result.count ≡ self.count + (to - from)) }
+    {
+        let mut out = self;
+        for i in from..to {
+            out = out.with_point(curves::point_at(c, i));
+        }
+        out
     }
-    Line {
-        count: n + 1,
-        cells,
-    }
-}
-
-// The line with the points from `from` on, up to and without `to`, of the curve c.
-fn with_points(line: Line, c: &[i64], from: usize, to: usize) -> Line
-    requires { Run c.now × (from ≤ to) × (to ≤ length c.now / 2) × (line.count < 100) }
-    ensures { ((ps : List _) → line ≡ line_of ps → result
-        ≡ line_of (ps ++ table (point_at c.now) from (to - from))) × (result.count ≡ line.count + (to - from)) }
-{
-    let mut out = line;
-    for i in from..to {
-        out = with_point(out, curves::point_at(c, i));
-    }
-    out
 }
 
 // The curve as it is.
@@ -66,7 +64,7 @@ pub fn whole_of(c: &[i64]) -> Line
     requires { Run c.now }
     ensures { result ≡ line_of (points (curve_of c.now)) }
 {
-    with_points(Line::empty(), c, 0, curves::point_count(c))
+    Line::empty().with_points(c, 0, curves::point_count(c))
 }
 
 // The curve up to its first place at m.
@@ -74,11 +72,10 @@ pub fn front_of(c: &[i64], m: Point) -> Line
     requires { Run c.now × InRange m }
     ensures { result ≡ line_of (points (front m (curve_of c.now))) }
 {
-    let found = curves::first_place(c, m);
-    let Found::At(i) = found else {
-        return with_points(Line::empty(), c, 0, curves::point_count(c));
+    let Some(i) = curves::first_place(c, m) else {
+        return whole_of(c);
     };
-    with_point(with_points(Line::empty(), c, 0, i + 1), m)
+    Line::empty().with_points(c, 0, i + 1).with_point(m)
 }
 
 // The curve from its first place at m on.
@@ -86,16 +83,15 @@ pub fn back_of(c: &[i64], m: Point) -> Line
     requires { Run c.now × InRange m }
     ensures { result ≡ line_of (points (back m (curve_of c.now))) }
 {
-    let start = with_point(Line::empty(), m);
-    let found = curves::first_place(c, m);
-    let Found::At(i) = found else {
+    let start = Line::empty().with_point(m);
+    let Some(i) = curves::first_place(c, m) else {
         return start;
     };
     let n = curves::point_count(c);
-    if plane::same_point(m, curves::point_at(c, i + 1)) {
-        with_points(start, c, i + 2, n)
+    if m == curves::point_at(c, i + 1) {
+        start.with_points(c, i + 2, n)
     } else {
-        with_points(start, c, i + 1, n)
+        start.with_points(c, i + 1, n)
     }
 }
 
@@ -108,11 +104,11 @@ pub fn joined_of(c: &[i64], d: &[i64]) -> Line
     let n = curves::point_count(c);
     let k = curves::point_count(d);
     let joint = curves::point_at(c, n - 1);
-    let begin = with_points(Line::empty(), c, 0, n - 1);
+    let begin = Line::empty().with_points(c, 0, n - 1);
     if plane::straight_between(curves::point_at(c, n - 2), joint, curves::point_at(d, 1)) {
-        with_points(begin, d, 1, k)
+        begin.with_points(d, 1, k)
     } else {
-        with_points(with_point(begin, joint), d, 1, k)
+        begin.with_point(joint).with_points(d, 1, k)
     }
 }
 
@@ -122,14 +118,14 @@ pub fn without_surplus(c: &[i64]) -> Line
     ensures { result ≡ line_of (points (without_surplus (curve_of c.now))) }
 {
     let last = curves::point_count(c) - 1;
-    let mut out = with_point(Line::empty(), curves::point_at(c, 0));
+    let mut out = Line::empty().with_point(curves::point_at(c, 0));
     for i in 1..last {
         let p = curves::point_at(c, i);
         if !plane::straight_between(curves::point_at(c, i - 1), p, curves::point_at(c, i + 1)) {
-            out = with_point(out, p);
+            out = out.with_point(p);
         }
     }
-    with_point(out, curves::point_at(c, last))
+    out.with_point(curves::point_at(c, last))
 }
 
 // The curve the other way round.
@@ -140,7 +136,7 @@ pub fn reversed_of(c: &[i64]) -> Line
     let n = curves::point_count(c);
     let mut out = Line::empty();
     for i in 0..n {
-        out = with_point(out, curves::point_at(c, n - 1 - i));
+        out = out.with_point(curves::point_at(c, n - 1 - i));
     }
     out
 }

@@ -5,6 +5,8 @@ use mathlib.Core.Bool.{Bool, true, false, cond, not, ◌&&◌, ◌||◌, true≢
 use mathlib.Core.List.{List, [], ◌∷◌, map}
 use Rattle.lists.specs.Scans.{any_of}
 use Rattle.lists.proofs.Bools.{or-false, or_no}
+use Rattle.std.specs.Ordering.{ord_max}
+use Rattle.plane.specs.contracts.ContactOrd.TheImpl.{cmp-value}
 use Rattle.plane.specs.declared.Point.{Point}
 use Rattle.plane.specs.declared.Contact.{Contact}
 use Rattle.plane.specs.declared.Contact.TheVariants.{None, Touch, Crossing, Stretch}
@@ -19,6 +21,25 @@ graver_none None = refl
 graver_none Touch = refl
 graver_none Crossing = refl
 graver_none Stretch = refl
+
+-- the derived order goes by how grave they are
+pub max_is : (j k : Contact) → ord_max cmp-value.it j k ≡ graver j k
+max_is None None = refl
+max_is None Touch = refl
+max_is None Crossing = refl
+max_is None Stretch = refl
+max_is Touch None = refl
+max_is Touch Touch = refl
+max_is Touch Crossing = refl
+max_is Touch Stretch = refl
+max_is Crossing None = refl
+max_is Crossing Touch = refl
+max_is Crossing Crossing = refl
+max_is Crossing Stretch = refl
+max_is Stretch None = refl
+max_is Stretch Touch = refl
+max_is Stretch Crossing = refl
+max_is Stretch Stretch = refl
 
 pub graver_assoc : (i j k : Contact) → graver (graver i j) k ≡ graver i (graver j k)
 graver_assoc None j k = refl

@@ -1,24 +1,23 @@
 -- Laws of runs: the points of a run, one after the other. Assumes nothing.
 use mathlib.Core.Path.{◌≡◌, refl, ap, ◌∙◌}
-use mathlib.Core.Bool.{Bool, true, false, not, ◌&&◌, ◌||◌, false≢true}
+use mathlib.Core.Bool.{Bool, true, ◌&&◌, false≢true}
 use mathlib.Core.List.{List, [], ◌∷◌}
 use Prim.Native.Nat.{ℕ, zero, suc, ◌+◌, ◌*◌, ◌-◌, ◌/◌, ◌≤◌, ◌<◌}
 use native.Mathlib.Nat.{add-zero, zero-add, lt_of_le_of_lt}
 use native.Mathlib.Numerals.{add-one}
 use native.Mathlib.Omega.{arith}
-use lib.Dec.{T, leb, ltb, lit<}
+use lib.Dec.{T, leb, lit<}
 use lib.IntN.{ℤ, pos, negsuc, nat_abs}
 use lib.ListN.{length, get_or, drop}
 use lib.Seq.{drop-cons}
-use lib.Signed.{le_z, lt_z, non_neg}
+use lib.Signed.{le_z, non_neg}
 use mir.Syntax.{w64}
 use mir.Val.{of_z, to_z, SFits, Fits}
 use mir.Facts.{to_z-of_z, Fits-of_lt}
 use borrow.Author.Rules.{sfits_of}
-use borrow.Author.Tests.{leb-true, ltb-true, ltb-false, le-leb, lt-leb, le-ltb}
+use borrow.Author.Tests.{leb-true, le-leb}
 use Rattle.lists.specs.Scans.{all_of}
 use Rattle.lists.specs.Tables.{table}
-use Rattle.lists.proofs.Bools.{&&-false}
 pub use Rattle.lists.proofs.Bools.{and_left, and_right}
 use Rattle.plane.specs.Points.{max_coordinate, InRange}
 use Rattle.curves.specs.Curves.{Run, is_run_to, max_points, coordinate, point_at, points_from, points_of, curve_of}
@@ -114,39 +113,6 @@ run_wider {k} {n} le l h =
       le-leb (length l / 2) n (omega arith),
       and_right (leb 2 (length l / 2) && leb (length l / 2) k) (all_of coordinate l) h,
     )
-
--- ---- whether a list is a run
-
--- the number of points, tested
-pub few_tested : (most n : ℕ) → leb 2 n && leb n most ≡ not (ltb n 2 || ltb most n)
-few_tested most n = go (ltb n 2) refl (ltb most n) refl
-  where
-    go : (s : Bool) → ltb n 2 ≡ s → (t : Bool) → ltb most n ≡ t → leb 2 n && leb n most ≡ not (s || t)
-    go true e t f = rw (lt-leb 2 n (ltb-true n 2 e))
-    go false e true f = rw (lt-leb n most (ltb-true most n f)) (&&-false (leb 2 n))
-    go false e false f = rw (le-leb 2 n (ltb-false n 2 e), le-leb n most (ltb-false most n f))
-
--- a number, tested
-pub coordinate_tested : {z : ℤ} → SFits w64 z → coordinate z
-    ≡ not (lt_z (to_z w64 (of_z w64 z)) (pos 0) || lt_z (pos max_coordinate) (to_z w64 (of_z w64 z)))
-coordinate_tested {z} f = rw (to_z-of_z f) (go z)
-  where
-    go : (z : ℤ) → coordinate z ≡ not (lt_z z (pos 0) || lt_z (pos max_coordinate) z)
-    go (negsuc n) = refl
-    go (pos n) = rw (le-leb 0 n (omega arith), le-ltb n 0 (omega arith)) (below (ltb max_coordinate n) refl)
-      where
-        below : (t : Bool) → ltb max_coordinate n ≡ t → leb n max_coordinate ≡ not t
-        below true e = lt-leb n max_coordinate (ltb-true max_coordinate n e)
-        below false e = le-leb n max_coordinate (ltb-false max_coordinate n e)
-
-pub not_few : (most : ℕ) (l : List ℤ) → ltb (length l / 2) 2 || ltb most (length l / 2) ≡ true → is_run_to most l ≡ false
-unfolding is_run_to
-not_few most l e = rw (few_tested most (length l / 2), e)
-
-pub if_few : (most : ℕ) (l : List ℤ) → ltb (length l / 2) 2 || ltb most (length l / 2) ≡ false
-    → is_run_to most l ≡ all_of coordinate l
-unfolding is_run_to
-if_few most l e = rw (few_tested most (length l / 2), e)
 
 -- ---- the points of a run
 

@@ -1,9 +1,11 @@
 -- The tests of curves over the points of a run that are left from point i on: a turn of the loop is `-hit` or `-miss`,
 -- and the loop's end is `-end`. Assumes nothing.
+use Rattle.std.specs.Prelude.{Option, Some, None}
+use Rattle.std.specs.Bool.{then_some}
 use mathlib.Core.Path.{◌≡◌, refl, sym, ap, ap₂, ◌∙◌}
 use mathlib.Core.Bool.{Bool, true, false, not, ◌&&◌, ◌||◌, beq}
 use mathlib.Core.List.{List, [], ◌∷◌, map}
-use Prim.Native.Nat.{ℕ, ◌+◌, ◌-◌, ◌/◌, ◌≤◌, ◌<◌}
+use Prim.Native.Nat.{ℕ, ◌+◌, ◌/◌, ◌≤◌, ◌<◌}
 use native.Mathlib.Omega.{arith}
 use lib.Dec.{eqb}
 use lib.IntN.{ℤ}
@@ -12,17 +14,16 @@ use borrow.Author.Tests.{eqb-true, eqb-false}
 use Rattle.lists.specs.Tests.{◌⊕◌}
 use Rattle.lists.specs.Scans.{odd_count}
 use Rattle.lists.specs.Tables.{place}
-use Rattle.lists.specs.declared.Found.TheVariants.{At}
-use Rattle.lists.proofs.Bools.{eq1, eq3, ⊕-false}
+use Rattle.lists.proofs.Bools.{eq2, eq3, ⊕-false}
 use Rattle.plane.specs.declared.Point.{Point}
 use Rattle.plane.specs.declared.Contact.{Contact}
-use Rattle.plane.specs.Points.{same_point}
+use Rattle.plane.specs.Points.{InRange, same_point}
 use Rattle.plane.specs.Segments.{on_segment}
 use Rattle.plane.specs.Below.{Segment, passes_below}
-use Rattle.curves.specs.Curves.{Run, point_at, points_from, segments_of, curve_of}
+use Rattle.curves.specs.Curves.{Curve, Run, point_at, points_from, segments_of, curve_of, last_point}
 use Rattle.curves.specs.Tests.{differs, shares, seg_wrong, may_share, graver, gravest}
-use Rattle.curves.specs.Shares.{marked_ends}
-use Rattle.curves.specs.Tests.{lastly, free, free_after, arc, simple, is_simple}
+use Rattle.curves.specs.Shares.{listed, shareable, marked_ends, AnyInRange}
+use Rattle.curves.specs.Tests.{common_ends, lastly, free, free_after, arc, simple, is_simple}
 use Rattle.curves.proofs.Meetings.{graver_none, graver_assoc}
 use Rattle.curves.proofs.Runs.{two-points, from_step, from_end, curve_is, last_is}
 
@@ -59,7 +60,7 @@ module _ (l : List ℤ) (i : ℕ) {n : ℕ} (all : n + 1 ≡ length l / 2) (take
   segments_step = rw (from_step l (i + 1) within)
 
   module _ (p : Point) where
-    pub place_hit : on_segment p (point_at l i) (point_at l (i + 1)) ≡ true → place (on p) i (segments_from l i) ≡ At i
+    pub place_hit : on_segment p (point_at l i) (point_at l (i + 1)) ≡ true → place (on p) i (segments_from l i) ≡ Some i
     place_hit e = rw (segments_step, e)
 
     pub place_miss : on_segment p (point_at l i) (point_at l (i + 1)) ≡ false
@@ -123,14 +124,30 @@ module _ (l : List ℤ) (i : ℕ) {n : ℕ} (all : n + 1 ≡ length l / 2) (left
   pub arc-end : arc (point_at l i) (points_from l (i + 1)) ≡ true
   arc-end = rw (from_end l (i + 1) past)
 
--- the ends of one run, marked where they are ends of the other
-pub common_ends_are : {l k : List ℤ} (n m : ℕ) {a z b y : Point} {s t u v : Bool} → Run l → Run k → n + 1
-    ≡ length l / 2 → m + 1 ≡ length k / 2
+-- the points that two segments may share, as lists
+pub listed_is : (m : Bool) (p : Point) (l : List Point) → listed (then_some m p) l ≡ may_share m p l
+listed_is true p l = refl
+listed_is false p l = refl
+
+pub shareable_ends : (c d : Curve) → shareable (marked_ends c d) ≡ common_ends c d
+shareable_ends c d = rw (
+  listed_is (same_point c.first d.first || same_point c.first (last_point d)),
+  listed_is (same_point (last_point c) d.first || same_point (last_point c) (last_point d)),
+)
+
+pub any_then : {o : Option Point} (m : Bool) (p : Point) → o ≡ then_some m p → InRange p → AnyInRange o
+any_then true p e h = rw e h
+any_then false p e h = rw e tt
+
+-- the ends of one run that are ends of the other
+pub common_ends_are : {l k : List ℤ} (n m : ℕ) {a z b y : Point} {s t : Bool} {f g : Option Point} → Run l → Run k
+    → n + 1 ≡ length l / 2 → m + 1 ≡ length k / 2
     → a ≡ point_at l 0 → z ≡ point_at l n → b ≡ point_at k 0 → y ≡ point_at k m
-    → s ≡ same_point a b → t ≡ same_point a y → u ≡ same_point z b → v ≡ same_point z y
-    → record { first = a; first_may = s || t; last = z; last_may = u || v } ≡ marked_ends (curve_of l) (curve_of k)
-common_ends_are {l} {k} n m run run' en em ea ez eb ey es et eu ev =
-    rw (curve_is run, curve_is run', last_is l n en, last_is k m em, es, et, eu, ev, ea, ez, eb, ey)
+    → s ≡ same_point a b || same_point a y → t ≡ same_point z b || same_point z y
+    → f ≡ then_some s a → g ≡ then_some t z
+    → record { first = f; last = g } ≡ marked_ends (curve_of l) (curve_of k)
+common_ends_are {l} {k} n m run run' en em ea ez eb ey es et ef eg =
+    rw (curve_is run, curve_is run', last_is l n en, last_is k m em, ef, eg, es, et, ea, ez, eb, ey)
 
 -- the first segment of a run, and the others
 pub simple_is : {l : List ℤ} (n : ℕ) → Run l → n + 1 ≡ length l / 2
@@ -141,15 +158,12 @@ simple_is {l} n run e =
     let f = from_step l 1 (two-points run) in
     rw (curve_is run, ← last_is l n e, f)
 
--- the points that two segments may share, of which at most two are given
-pub shares_is : (m n : Bool) (p q a b c d : Point)
-    → shares (may_share m p (may_share n q [])) a b c d ≡ (m && (on_segment p a b && on_segment p c d))
-    || (n && (on_segment q a b && on_segment q c d))
-shares_is true true p q a b c d = ap (λ (t : Bool). on_segment p a b && on_segment p c d || t)
-    (eq1 (λ t. t || false) (λ t. t) tt (on_segment q a b && on_segment q c d))
-shares_is true false p q a b c d = refl
-shares_is false true p q a b c d = eq1 (λ t. t || false) (λ t. t) tt (on_segment q a b && on_segment q c d)
-shares_is false false p q a b c d = refl
+-- a point of either lies on both segments
+pub shares_is : (p q : Option Point) (a b c d : Point)
+    → shares (listed p (listed q [])) a b c d ≡ shares (listed p []) a b c d || shares (listed q []) a b c d
+shares_is None q a b c d = refl
+shares_is (Some p) q a b c d = sym (eq2 (λ s t. (s || false) || t) (λ s t. s || t) tt (on_segment p a b && on_segment p c d)
+    (shares (listed q []) a b c d))
 
 -- the first point may be shared with the last segment alone
 pub share_last : (l : List ℤ) (m : Bool) (p : Point) (i n : ℕ) → n + 1 ≡ length l / 2 → i + 1 ≤ n
@@ -170,15 +184,15 @@ share_last l m p i n e h = go (eqb (i + 1) n) refl
         none true = refl
         none false = refl
 
--- what the test of segment i answered
-pub free_told : (l : List ℤ) (i n : ℕ) (m : Bool) (p a b : Point) {q r : Point} {t v : Bool} → n + 1 ≡ length l / 2
-    → i < n → q ≡ point_at l i → r ≡ point_at l (i + 1)
-    → t ≡ seg_wrong (may_share (m && eqb (i + 1) n) p []) a b q r → t ≡ v
+-- what the test of segment i answered, where o is the point that may be shared
+pub free_told : (l : List ℤ) (i n : ℕ) (m : Bool) (p a b : Point) {q r : Point} {s t v : Bool} {o : Option Point}
+    → n + 1 ≡ length l / 2 → i < n → q ≡ point_at l i → r ≡ point_at l (i + 1)
+    → s ≡ (m && eqb (i + 1) n) → o ≡ then_some s p → t ≡ seg_wrong (listed o []) a b q r → t ≡ v
     → seg_wrong (lastly (may_share m p []) (points_from l (i + 1 + 1))) a b (point_at l i) (point_at l (i + 1)) ≡ v
-free_told l i n m p a b all taken eq er et ev =
+free_told l i n m p a b all taken eq er es eo et ev =
     sym (ap (λ (k : List Point). seg_wrong k a b (point_at l i) (point_at l (i + 1)))
-    (share_last l m p i n all (omega arith)))
-    ∙ asked (seg_wrong (may_share (m && eqb (i + 1) n) p []) a b) eq er et ev
+    (rw (eo, es, listed_is (m && eqb (i + 1) n) p []) (share_last l m p i n all (omega arith))))
+    ∙ asked (seg_wrong _ a b) eq er et ev
 
 -- segment i has a next one
 module _ (l : List ℤ) (i : ℕ) (h : i + 2 < length l / 2) (k : List Point) (a b : Point) where

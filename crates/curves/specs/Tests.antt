@@ -1,7 +1,6 @@
 -- What is asked of curves: neighbouring points, straight points, places on a curve, simple curves, and how two curves
 -- meet. Over a ∷ r first, then over a curve. What a test may leave out is bound by a `let`, which waits.
-use Rattle.std.specs.Prelude.{Bool, true, false, cond, not, ◌&&◌, ◌||◌, List, [], ◌∷◌, map}
-use Rattle.lists.specs.declared.Found.{Found}
+use Rattle.std.specs.Prelude.{Bool, true, false, cond, not, ◌&&◌, ◌||◌, List, [], ◌∷◌, map, Option, ℕ}
 use Rattle.lists.specs.Tables.{place}
 use Rattle.plane.specs.declared.Point.{Point}
 use Rattle.plane.specs.declared.Contact.{Contact}
@@ -107,7 +106,7 @@ abbrev pub on_curve : Curve → Point → Bool
 on_curve c p = passes p c.first c.rest
 
 -- the first place along the curve: the segment, counted from 0
-abbrev pub first_place : Curve → Point → Found
+abbrev pub first_place : Curve → Point → Option ℕ
 first_place c p = place (λ s. on_segment p s.from s.to) 0 (segments c)
 
 abbrev pub is_simple : Curve → Bool

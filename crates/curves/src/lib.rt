@@ -1,16 +1,15 @@
 // Curves as runs of numbers x, y, x, y, .. in a lent slice: part of a ticket or of an edge row.
 #![tactic(auto)]
 
-ghost use Rattle.std.specs.Prelude.{◌≡◌, true, false, ◌&&◌, [], map, ◌+◌, ◌*◌, ◌-◌, ◌≤◌, ◌<◌, ◌/◌, length};
+ghost use Rattle.std.specs.Prelude.{◌≡◌, [], map, ◌+◌, ◌*◌, ◌-◌, ◌≤◌, ◌<◌, ◌/◌, length};
+ghost use Rattle.lists.specs.Scans.{all_of};
 ghost use Rattle.plane.specs.Points.{InRange};
-ghost use Rattle.plane.specs.Segments.{on_segment};
-ghost use Rattle.curves.specs.Curves.{Run, is_run_to, point_at, points_from, segments, curve_of};
-ghost use Rattle.curves.specs.Tests.{neighbours_differ, first_place, seg_wrong, may_share};
+ghost use Rattle.curves.specs.Curves.{Run, coordinate, is_run_to, point_at, points_from, segments, curve_of};
+ghost use Rattle.curves.specs.Tests.{neighbours_differ, first_place, shares, seg_wrong, may_share};
 ghost use Rattle.curves.specs.Tests.{seg_meeting, graver, gravest, meeting, free, free_after, is_simple};
 ghost use Rattle.curves.specs.Measures.{curve_area, odd_below};
-ghost use Rattle.curves.specs.Shares.{Shareable, shareable, marked_ends};
+ghost use Rattle.curves.specs.Shares.{Shareable, AnyInRange, listed, shareable, marked_ends};
 
-use lists::Found;
 use plane::{Contact, Point};
 
 // Points of a curve, at most, and their coordinates.
@@ -18,13 +17,11 @@ pub const POINTS: usize = 12;
 
 pub const CELLS: usize = 2 * POINTS;
 
-// Two points that segments may share, each only where its mark is set.
+// The points that segments may share: at most two.
 #[derive(Clone, Copy)]
 pub struct Shares {
-    pub first: Point,
-    pub first_may: bool,
-    pub last: Point,
-    pub last_may: bool,
+    pub first: Option<Point>,
+    pub last: Option<Point>,
 }
 
 // ---- points of a run
@@ -44,21 +41,23 @@ fn segment_count(c: &[i64]) -> usize
     point_count(c) - 1
 }
 
-// Whether the run has 2 to `most` points, and every coordinate in range.
-pub fn is_run(c: &[i64], most: usize) -> bool
-    ensures { result ≡ is_run_to most c.now }
+// Whether every number is a coordinate.
+pub fn are_coordinates(c: &[i64]) -> bool
+    ensures { result ≡ all_of coordinate c.now }
 {
-    let n = point_count(c);
-    if (n < 2) | (most < n) {
-        return false;
-    }
-    for i in 0..c.len() {
-        let z = c[i];
-        if (z < 0) | (plane::COORDINATE < z) {
+    for z in c {
+        if !(0..=plane::COORDINATE).contains(z) {
             return false;
         }
     }
     true
+}
+
+// Whether the run has 2 to `most` points, and every coordinate in range.
+pub fn is_run(c: &[i64], most: usize) -> bool
+    ensures { result ≡ is_run_to most c.now }
+{
+    (2..=most).contains(&point_count(c)) && are_coordinates(c)
 }
 
 // Point i.
@@ -66,12 +65,9 @@ pub fn point_at(c: &[i64], i: usize) -> Point
     requires { Run c.now × (i < length c.now / 2) }
     ensures { (result ≡ point_at c.now i) × InRange result }
 {
-    let j = i * 2;
-    let x = c[j];
-    let y = c[j + 1];
     Point {
-        x: x as u64,
-        y: y as u64,
+        x: c[i * 2] as u64,
+        y: c[i * 2 + 1] as u64,
     }
 }
 
@@ -84,7 +80,7 @@ pub fn neighbours_differ(c: &[i64]) -> bool
 {
     let n = segment_count(c);
     for i in 0..n {
-        if plane::same_point(point_at(c, i), point_at(c, i + 1)) {
+        if point_at(c, i) == point_at(c, i + 1) {
             return false;
         }
     }
@@ -92,33 +88,30 @@ pub fn neighbours_differ(c: &[i64]) -> bool
 }
 
 // The first place of p along the curve: the segment, counted from 0.
-pub fn first_place(c: &[i64], p: Point) -> Found
+pub fn first_place(c: &[i64], p: Point) -> Option<usize>
     requires { Run c.now × InRange p }
     ensures { result ≡ first_place (curve_of c.now) p }
 {
     let n = segment_count(c);
     for i in 0..n {
         if plane::on_segment(p, point_at(c, i), point_at(c, i + 1)) {
-            return Found::At(i);
+            return Some(i);
         }
     }
-    Found::Missing
+    None
 }
 
 // ---- points that two segments share
 
-// Whether p may be shared and lies on both segments.
-fn shared_at(may: bool, p: Point, a: Point, b: Point, c: Point, d: Point) -> bool
-    requires { (InRange p) × (InRange a) × (InRange b) × (InRange c) × (InRange d) }
-    ensures { result ≡ (may && (on_segment p a b && on_segment p c d)) }
+// Whether there is a point to share and it lies on both segments.
+fn shared_at(shared: Option<Point>, a: Point, b: Point, c: Point, d: Point) -> bool
+    requires { (AnyInRange shared) × (InRange a) × (InRange b) × (InRange c) × (InRange d) }
+    ensures { result ≡ shares (listed shared []) a b c d }
 {
-    if !may {
-        return false;
+    match shared {
+        Some(p) => plane::on_segment(p, a, b) && plane::on_segment(p, c, d),
+        None => false,
     }
-    if !plane::on_segment(p, a, b) {
-        return false;
-    }
-    plane::on_segment(p, c, d)
 }
 
 // Whether the segments a b and c d share a point that they may not share.
@@ -126,23 +119,14 @@ fn segments_wrong(l: Shares, a: Point, b: Point, c: Point, d: Point) -> bool
     requires { (Shareable l) × (InRange a) × (InRange b) × (InRange c) × (InRange d) }
     ensures { result ≡ seg_wrong (shareable l) a b c d }
 {
-    if !plane::segments_meet(a, b, c, d) {
-        return false;
-    }
-    if plane::segments_stretch(a, b, c, d) {
-        return true;
-    }
-    let first = l.first;
-    if shared_at(l.first_may, first, a, b, c, d) {
-        return false;
-    }
-    let last = l.last;
-    !shared_at(l.last_may, last, a, b, c, d)
+    plane::segments_meet(a, b, c, d)
+        && (plane::segments_stretch(a, b, c, d)
+            || !shared_at(l.first, a, b, c, d) && !shared_at(l.last, a, b, c, d))
 }
 
 // ---- two curves
 
-// The ends of c, each marked where it is an end of d.
+// The ends of c that are ends of d.
 pub fn common_ends(c: &[i64], d: &[i64]) -> Shares
     requires { Run c.now × Run d.now }
     ensures { (result ≡ marked_ends (curve_of c.now) (curve_of d.now)) × Shareable result }
@@ -152,32 +136,8 @@ pub fn common_ends(c: &[i64], d: &[i64]) -> Shares
     let b = point_at(d, 0);
     let y = point_at(d, segment_count(d));
     Shares {
-        first: a,
-        first_may: plane::same_point(a, b) | plane::same_point(a, y),
-        last: z,
-        last_may: plane::same_point(z, b) | plane::same_point(z, y),
-    }
-}
-
-// The graver of two contacts: a stretch before a crossing, and a crossing before a touch.
-pub fn graver(j: Contact, k: Contact) -> Contact
-    ensures { result ≡ graver j k }
-{
-    match j {
-        Contact::None => k,
-        Contact::Touch => match k {
-            Contact::None => Contact::Touch,
-            Contact::Touch => Contact::Touch,
-            Contact::Crossing => Contact::Crossing,
-            Contact::Stretch => Contact::Stretch,
-        },
-        Contact::Crossing => match k {
-            Contact::None => Contact::Crossing,
-            Contact::Touch => Contact::Crossing,
-            Contact::Crossing => Contact::Crossing,
-            Contact::Stretch => Contact::Stretch,
-        },
-        Contact::Stretch => Contact::Stretch,
+        first: (a == b || a == y).then_some(a),
+        last: (z == b || z == y).then_some(z),
     }
 }
 
@@ -188,9 +148,10 @@ fn segments_meeting(found: Contact, l: Shares, a: Point, b: Point, c: Point, d: 
     ensures { result ≡ graver found (seg_meeting (shareable l) a b c d) }
 {
     if segments_wrong(l, a, b, c, d) {
-        return graver(found, plane::contact_of(a, b, c, d));
+        found.max(plane::contact_of(a, b, c, d))
+    } else {
+        found
     }
-    found
 }
 
 // The gravest of what was found so far and of what the segment a b does with one of the curve's.
@@ -223,8 +184,8 @@ pub fn curves_meeting(c: &[i64], d: &[i64]) -> Contact
 
 // ---- simple curves
 
-// Whether segment i and those from point i + 2 on share nothing, but the last of these may share the first point where
-// the mark is set.
+// Whether segment i and those from point i + 2 on share nothing, but the last of these may share the first point of a
+// closed curve.
 fn segment_free(c: &[i64], i: usize, closed: bool) -> bool
     requires { Run c.now × (i + 2 < length c.now / 2) }
     ensures { result ≡ free (may_share closed (point_at c.now 0) []) (point_at c.now i)
@@ -236,10 +197,8 @@ fn segment_free(c: &[i64], i: usize, closed: bool) -> bool
     let end = point_at(c, 0);
     for j in i + 2..n {
         let l = Shares {
-            first: end,
-            first_may: closed & (j + 1 == n),
-            last: end,
-            last_may: false,
+            first: (closed && j + 1 == n).then_some(end),
+            last: None,
         };
         if segments_wrong(l, a, b, point_at(c, j), point_at(c, j + 1)) {
             return false;
@@ -249,7 +208,7 @@ fn segment_free(c: &[i64], i: usize, closed: bool) -> bool
 }
 
 // Whether segment i shares with the next only their common point, and with later ones nothing, but the first point
-// where the mark is set.
+// of a closed curve.
 fn segment_clear(c: &[i64], i: usize, closed: bool) -> bool
     requires { Run c.now × (i + 1 < length c.now / 2) }
     ensures { result ≡ free_after (may_share closed (point_at c.now 0) []) (point_at c.now i)
@@ -260,10 +219,8 @@ fn segment_clear(c: &[i64], i: usize, closed: bool) -> bool
     }
     let b = point_at(c, i + 1);
     let l = Shares {
-        first: b,
-        first_may: true,
-        last: b,
-        last_may: false,
+        first: Some(b),
+        last: None,
     };
     if segments_wrong(l, point_at(c, i), b, b, point_at(c, i + 2)) {
         return false;
@@ -277,7 +234,7 @@ pub fn is_simple(c: &[i64]) -> bool
     ensures { result ≡ is_simple (curve_of c.now) }
 {
     let n = segment_count(c);
-    let closed = plane::same_point(point_at(c, n), point_at(c, 0));
+    let closed = point_at(c, n) == point_at(c, 0);
     if !segment_clear(c, 0, closed) {
         return false;
     }
@@ -305,7 +262,7 @@ pub fn area_of(c: &[i64]) -> i64
         plus += plane::times(a.x, b.y);
         minus += plane::times(a.y, b.x);
     }
-    (plus as i64) - (minus as i64)
+    plus as i64 - minus as i64
 }
 
 // Whether an odd number of segments pass below p.
@@ -316,7 +273,7 @@ pub fn odd_below(c: &[i64], p: Point) -> bool
     let n = segment_count(c);
     let mut odd = false;
     for i in 0..n {
-        odd = odd != directions::passes_below(p, point_at(c, i), point_at(c, i + 1));
+        odd ^= directions::passes_below(p, point_at(c, i), point_at(c, i + 1));
     }
     odd
 }

@@ -1,5 +1,6 @@
 -- Directed edges by position: a position names one directed edge of the map, each of which has one, and the columns in
 -- a row tell what the map says of it. Assumes nothing.
+use Rattle.std.specs.Prelude.{Option, Some, None}
 use mathlib.Core.Path.{◌≡◌, refl, sym, ap, ◌∙◌, subst}
 use mathlib.Core.Bool.{Bool, true, false, not, ◌&&◌, ◌||◌, false≢true}
 use mathlib.Core.Logic.{◌⊎◌, inl, inr}
@@ -15,8 +16,6 @@ use mir.Syntax.{w64}
 use mir.Val.{SFits}
 use Rattle.lists.specs.Scans.{all_of, is_some}
 use Rattle.lists.specs.Tables.{table, place}
-use Rattle.lists.specs.declared.Found.{Found}
-use Rattle.lists.specs.declared.Found.TheVariants.{At, Missing}
 use Rattle.lists.proofs.Bools.{which, same_true, same_eq, same_false, differ, not-true}
 use Rattle.lists.proofs.Scans.{place_at, place_none, table_in}
 use Rattle.curves.proofs.Runs.{and_left, and_right}
@@ -133,13 +132,13 @@ module _ {l : List ℤ} {n : ℕ} (t : EdgeRows l n) where
   cells_of_lem i h = edge_cells_lem l i (edge-row_of t i h).ranges
 
   -- the row of an edge's number
-  row_of : (i : ℕ) → i < n → place (same_z (pos (edge_at l i).number)) 0 (column edge_width l n) ≡ At i
+  row_of : (i : ℕ) → i < n → place (same_z (pos (edge_at l i).number)) 0 (column edge_width l n) ≡ Some i
   row_of i h = ap (λ (z : ℤ). place (same_z z) 0 (column edge_width l n)) (sym (cells_of_lem i h).number)
       ∙ row_place edge_width l n (edge_rows_rising t) i h
 
   pub number_injective : (i j : ℕ) → i < n → j < n → (edge_at l i).number ≡ (edge_at l j).number → i ≡ j
   number_injective i j h k e =
-      let f : At i ≡ At j = sym (row_of i h) ∙ ap (λ (m : ℕ). place (same_z (pos m)) 0 (column edge_width l n)) e
+      let f : Some i ≡ Some j = sym (row_of i h) ∙ ap (λ (m : ℕ). place (same_z (pos m)) 0 (column edge_width l n)) e
       ∙ row_of j k in
       cc
 
@@ -159,7 +158,7 @@ module _ {l : List ℤ} {n : ℕ} (t : EdgeRows l n) where
       ]
 
   -- the place of a directed edge in the map's order is its position
-  pub position_is : (p : ℕ) → p < n * 2 → place (λ c. same_dart c (dart_at l p)) 0 (directed (edge_map l n)) ≡ At p
+  pub position_is : (p : ℕ) → p < n * 2 → place (λ c. same_dart c (dart_at l p)) 0 (directed (edge_map l n)) ≡ Some p
   position_is p h =
       ap (place (λ c. same_dart c (dart_at l p)) 0) (directed-table l n)
       ∙ place_at (dart_at l) (λ c. same_dart c (dart_at l p)) (n * 2) p h
@@ -168,13 +167,13 @@ module _ {l : List ℤ} {n : ℕ} (t : EdgeRows l n) where
       (same_dart_refl (dart_at l p))
 
   found_at : (d : Dart) (p : ℕ) → p < n * 2 → dart_at l p ≡ d → place (λ c. same_dart c d) 0 (directed (edge_map l n))
-      ≡ At p
-  found_at d p h e = subst (λ (x : Dart). place (λ c. same_dart c x) 0 (directed (edge_map l n)) ≡ At p) e
+      ≡ Some p
+  found_at d p h e = subst (λ (x : Dart). place (λ c. same_dart c x) 0 (directed (edge_map l n)) ≡ Some p) e
       (position_is p h)
 
   -- one that has no position is missing
   pub position_none : (d : Dart) → ((p : ℕ) → p < n * 2 → dart_at l p ≡ d → ⊥)
-      → place (λ c. same_dart c d) 0 (directed (edge_map l n)) ≡ Missing
+      → place (λ c. same_dart c d) 0 (directed (edge_map l n)) ≡ None
   position_none d never =
       ap (place (λ c. same_dart c d) 0) (directed-table l n)
       ∙ place_none (dart_at l) (λ c. same_dart c d) (n * 2)
@@ -265,8 +264,8 @@ module _ {l : List ℤ} {n : ℕ} (t : EdgeRows l n) where
     next_there = position_there (next (edge_map l n) (dart_at l p)) next-named
 
   -- the place that its number is found at
-  pub next_place : (p : ℕ) (h : p < n * 2) (r : Found) → r
-      ≡ place (λ c. same_dart c (dart_of (side_cell l p 3))) 0 (directed (edge_map l n)) → r ≡ At (next_there p h).0
+  pub next_place : (p : ℕ) (h : p < n * 2) (r : Option ℕ) → r
+      ≡ place (λ c. same_dart c (dart_of (side_cell l p 3))) 0 (directed (edge_map l n)) → r ≡ Some (next_there p h).0
   next_place p h r e =
       let q = next_there p h in
       e ∙ ap (λ (d : Dart). place (λ c. same_dart c d) 0 (directed (edge_map l n))) (link_is p h)
@@ -279,32 +278,32 @@ module _ {l : List ℤ} {n : ℕ} (t : EdgeRows l n) where
 
   -- ---- a directed edge looked up
 
-  pub forward_found : (m i : ℕ) → place (same_z (pos m)) 0 (column edge_width l n) ≡ At i → (i < n)
-      × (place (λ c. same_dart c (fwd m)) 0 (directed (edge_map l n)) ≡ At (i * 2))
+  pub forward_found : (m i : ℕ) → place (same_z (pos m)) 0 (column edge_width l n) ≡ Some i → (i < n)
+      × (place (λ c. same_dart c (fwd m)) 0 (directed (edge_map l n)) ≡ Some (i * 2))
   forward_found m i e =
       let r = edge_found l n t.ranges (pos m) i e in
       let h = r.0 in
       (h, found_at (fwd m) (i * 2) (omega arith) (dart_even l i ∙ ap fwd (sym (ap nat_abs r.1))))
 
-  pub back_found : (m i : ℕ) → place (same_z (pos m)) 0 (column edge_width l n) ≡ At i → (i < n)
-      × (place (λ c. same_dart c (bwd m)) 0 (directed (edge_map l n)) ≡ At (i * 2 + 1))
+  pub back_found : (m i : ℕ) → place (same_z (pos m)) 0 (column edge_width l n) ≡ Some i → (i < n)
+      × (place (λ c. same_dart c (bwd m)) 0 (directed (edge_map l n)) ≡ Some (i * 2 + 1))
   back_found m i e =
       let r = edge_found l n t.ranges (pos m) i e in
       let h = r.0 in
       (h, found_at (bwd m) (i * 2 + 1) (omega arith) (dart_odd l i ∙ ap bwd (sym (ap nat_abs r.1))))
 
   -- where the edge is missing
-  pub edge_none : (d : Dart) → place (same_z (pos d.edge)) 0 (column edge_width l n) ≡ Missing
-      → place (λ c. same_dart c d) 0 (directed (edge_map l n)) ≡ Missing
+  pub edge_none : (d : Dart) → place (same_z (pos d.edge)) 0 (column edge_width l n) ≡ None
+      → place (λ c. same_dart c d) 0 (directed (edge_map l n)) ≡ None
   edge_none d e =
       position_none d (λ p h q.
-      let k : At (p / 2) ≡ Missing = sym (row_of (p / 2) (omega arith))
+      let k : Some (p / 2) ≡ None = sym (row_of (p / 2) (omega arith))
       ∙ ap (λ (x : Dart). place (same_z (pos x.edge)) 0 (column edge_width l n)) q ∙ e in
       let z : ◌≡◌ {A = ℕ} 0 1 = cc in
       omega arith)
 
   -- where it is past the last number
-  pub past_none : (d : Dart) → last_number < d.edge → place (λ c. same_dart c d) 0 (directed (edge_map l n)) ≡ Missing
+  pub past_none : (d : Dart) → last_number < d.edge → place (λ c. same_dart c d) 0 (directed (edge_map l n)) ≡ None
   past_none d far =
       position_none d (λ p h q.
       let k = (edge_number_in t (p / 2) (omega arith)).1 in
@@ -325,33 +324,33 @@ abbrev pub far : ℤ → Bool
 far z = lt_z z (negsuc 999998) || lt_z (pos 999999) z
 
 module _ {l : List ℤ} {n : ℕ} (t : EdgeRows l n) where
-  pub far_none : (z : ℤ) → far z ≡ true → place (λ c. same_dart c (dart_of z)) 0 (directed (edge_map l n)) ≡ Missing
+  pub far_none : (z : ℤ) → far z ≡ true → place (λ c. same_dart c (dart_of z)) 0 (directed (edge_map l n)) ≡ None
   far_none (pos m) h = past_none t (fwd m) (ltb-true 999999 m h)
   far_none (negsuc m) h = past_none t (bwd (suc m)) (let k = ltb-true 999998 m (one (ltb 999998 m) h) in omega arith)
 
   pub negative_found : (z u : ℤ) (i : ℕ) → lt_z z (pos 0) ≡ true → u ≡ pos 0 -ℤ z
-      → place (same_z u) 0 (column edge_width l n) ≡ At i → (i < n)
-      × (place (λ c. same_dart c (dart_of z)) 0 (directed (edge_map l n)) ≡ At (i * 2 + 1))
+      → place (same_z u) 0 (column edge_width l n) ≡ Some i → (i < n)
+      × (place (λ c. same_dart c (dart_of z)) 0 (directed (edge_map l n)) ≡ Some (i * 2 + 1))
   negative_found (pos m) u i h e f = absurd (not_below m h)
   negative_found (negsuc m) u i h e f =
       back_found t (suc m) i (ap (λ (v : ℤ). place (same_z v) 0 (column edge_width l n))
       (sym (e ∙ negative_is (negsuc m))) ∙ f)
 
   pub negative_missing : (z u : ℤ) → lt_z z (pos 0) ≡ true → u ≡ pos 0 -ℤ z → place (same_z u) 0 (column edge_width l n)
-      ≡ Missing → place (λ c. same_dart c (dart_of z)) 0 (directed (edge_map l n)) ≡ Missing
+      ≡ None → place (λ c. same_dart c (dart_of z)) 0 (directed (edge_map l n)) ≡ None
   negative_missing (pos m) u h e f = absurd (not_below m h)
   negative_missing (negsuc m) u h e f =
       edge_none t (bwd (suc m)) (ap (λ (v : ℤ). place (same_z v) 0 (column edge_width l n))
       (sym (e ∙ negative_is (negsuc m))) ∙ f)
 
   pub positive_found : (z u : ℤ) (i : ℕ) → lt_z z (pos 0) ≡ false → u ≡ z → place (same_z u) 0 (column edge_width l n)
-      ≡ At i → (i < n) × (place (λ c. same_dart c (dart_of z)) 0 (directed (edge_map l n)) ≡ At (i * 2))
+      ≡ Some i → (i < n) × (place (λ c. same_dart c (dart_of z)) 0 (directed (edge_map l n)) ≡ Some (i * 2))
   positive_found (pos m) u i h e f = forward_found t m i
       (ap (λ (v : ℤ). place (same_z v) 0 (column edge_width l n)) (sym e) ∙ f)
   positive_found (negsuc m) u i h e f = absurd (false≢true (sym h))
 
-  pub positive_missing : (z u : ℤ) → lt_z z (pos 0) ≡ false → u ≡ z → place (same_z u) 0 (column edge_width l n) ≡ Missing
-      → place (λ c. same_dart c (dart_of z)) 0 (directed (edge_map l n)) ≡ Missing
+  pub positive_missing : (z u : ℤ) → lt_z z (pos 0) ≡ false → u ≡ z → place (same_z u) 0 (column edge_width l n) ≡ None
+      → place (λ c. same_dart c (dart_of z)) 0 (directed (edge_map l n)) ≡ None
   positive_missing (pos m) u h e f = edge_none t (fwd m)
       (ap (λ (v : ℤ). place (same_z v) 0 (column edge_width l n)) (sym e) ∙ f)
   positive_missing (negsuc m) u h e f = absurd (false≢true (sym h))

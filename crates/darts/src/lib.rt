@@ -15,7 +15,6 @@ ghost use Rattle.map_rows.specs.Rows.{EdgeRow, EdgeRows, edge_map};
 ghost use Rattle.darts.specs.Positions.{reverse_of, dart_at, side_place, side_cell, way_at, StepInRange};
 ghost use Rattle.darts.specs.Positions.{course_at, course_with, Along};
 
-use lists::Found;
 use map::Map;
 use plane::Point;
 
@@ -57,25 +56,16 @@ pub fn dart_at(edges: &[i64], p: usize) -> i64
 }
 
 // The position of a directed edge: found, or missing.
-pub fn position_of(edges: &[i64], count: usize, d: i64) -> Found
+pub fn position_of(edges: &[i64], count: usize, d: i64) -> Option<usize>
     requires { EdgeRows edges.now count }
     ensures { result ≡ place (λ c. same_dart c (dart_of d)) 0 (directed (edge_map edges.now count)) }
 {
     if (d < map::LEAST_LINK) | (Map::LAST_NUMBER < d) {
-        return Found::Missing;
+        return None;
     }
-    if d < 0 {
-        let found = tables::find_row(edges, map::EDGE_WIDTH, count, -d);
-        let Found::At(i) = found else {
-            return Found::Missing;
-        };
-        return Found::At(i * 2 + 1);
-    }
-    let found = tables::find_row(edges, map::EDGE_WIDTH, count, d);
-    let Found::At(i) = found else {
-        return Found::Missing;
-    };
-    Found::At(i * 2)
+    let (number, back) = if d < 0 { (-d, 1) } else { (d, 0) };
+    let i = tables::find_row(edges, map::EDGE_WIDTH, count, number)?;
+    Some(i * 2 + back)
 }
 
 // The position of what follows; in form it is never missing. One step of a ring: walks hold positions in 16 bits.
@@ -85,11 +75,8 @@ pub fn next_position(edges: &[i64], count: usize, p: u16) -> u16
         × (dart_at edges.now result
         ≡ next (edge_map edges.now count) (dart_at edges.now p)) }
 {
-    let found = position_of(edges, count, dart_cell(edges, p as usize, map::NEXT_LEFT));
-    let Found::At(q) = found else {
-        return p;
-    };
-    q as u16
+    let next = dart_cell(edges, p as usize, map::NEXT_LEFT);
+    position_of(edges, count, next).unwrap_or(p as usize) as u16
 }
 
 // ---- directions

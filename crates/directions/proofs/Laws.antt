@@ -3,16 +3,13 @@ use mathlib.Core.Path.{◌≡◌, refl, ap₂, ◌∙◌}
 use mathlib.Core.Bool.{Bool, true, false}
 use mathlib.Core.List.{List, [], ◌∷◌}
 use Prim.Native.Nat.{ℕ, ◌+◌, ◌*◌, ◌≤◌, ◌<◌}
-use native.Mathlib.Omega.{arith}
-use borrow.Author.Tests.{lt-ltb, le-ltb}
 use lib.IntN.{ℤ, pos, ◌-ℤ◌, ◌*ℤ◌}
 use lib.ListN.{get_or}
 use Rattle.integers.specs.Order.{Sign, negative, null, positive, sgn}
 use Rattle.integers.specs.Solver.{Expr, ◌⊕◌, ◌⊖◌, ◌⊗◌, ◌≐◌, solve}
-use Rattle.lists.proofs.Bools.{same_eq, same_false}
 use Rattle.plane.specs.declared.Point.{Point}
-use Rattle.plane.specs.Areas.{is_null, is_positive}
-use Rattle.plane.specs.Directions.{Way, way_to, class, classes, sign_place, cross, before, same_way}
+use Rattle.plane.specs.Areas.{is_positive}
+use Rattle.plane.specs.Directions.{Way, way_to, class, classes, sign_place, cross}
 use Rattle.plane.specs.Below.{Segment, along, height, higher}
 use Rattle.plane.proofs.Laws.{sign_above, sign_below, sign_equal}
 
@@ -37,30 +34,6 @@ class-signs positive positive = refl
 pub class_is : (v : Way) (i j : ℕ) → i ≡ sign_place (sgn v.dx) → j ≡ sign_place (sgn v.dy) → class_at i j ≡ class v
 unfolding class
 class_is v i j ei ej = ap₂ class_at ei ej ∙ class-signs (sgn v.dx) (sgn v.dy)
-
--- ---- the order of directions; k and l are the classes of v and w
-module _ (v w : Way) (k l : ℕ) (ek : k ≡ class v) (el : l ≡ class w) where
-  pub before_less : k < l → true ≡ before v w
-  unfolding before
-  before_less h = rw (← ek, ← el, lt-ltb k l h)
-
-  pub before_greater : l < k → false ≡ before v w
-  unfolding before
-  before_greater h =
-      let e : k ≡ l → ⊥ = λ e. omega arith in
-      rw (← ek, ← el, le-ltb k l (omega arith), same_false k l e)
-
-  pub before_same : (b : Bool) → l ≤ k → k ≤ l → b ≡ is_positive (sgn (cross v w)) → b ≡ before v w
-  unfolding before
-  before_same b g h e = rw (← ek, ← el, le-ltb k l g, same_eq k l (omega arith)) e
-
-  pub same_way_other : (k ≡ l → ⊥) → false ≡ same_way v w
-  unfolding same_way
-  same_way_other h = rw (← ek, ← el, same_false k l h)
-
-  pub same_way-same : (b : Bool) → k ≡ l → b ≡ is_null (sgn (cross v w)) → b ≡ same_way v w
-  unfolding same_way
-  same_way-same b h e = rw (← ek, ← el, same_eq k l h) e
 
 -- ---- heights of two segments at x, over a common run: the difference of two sums of products
 abbrev pub height_part : ℕ → Point → Point → ℕ

@@ -5,11 +5,12 @@
 ghost use Rattle.std.specs.Prelude.{◌≡◌, true, false, ◌+◌, ◌*◌, ◌≤◌, ◌<◌, pos, ◌-ℤ◌};
 ghost use Rattle.integers.specs.Order.{sgn};
 ghost use Rattle.plane.specs.Points.{InRange, max_coordinate};
-ghost use Rattle.plane.specs.Areas.{turn, is_left};
+ghost use Rattle.plane.specs.Areas.{turn};
 ghost use Rattle.plane.specs.Directions.{way_to, sign_place, signs, class, cross, before, same_way};
 ghost use Rattle.plane.specs.Below.{is_below, passes_below, higher};
 
 use plane::{Point, Turn};
+use std::cmp::Ordering;
 
 // The signs: below, at and above 0.
 const SIGNS: usize = 3;
@@ -24,13 +25,11 @@ const CLASSES: [[u8; SIGNS]; SIGNS] = [[5, 4, 3], [6, 8, 2], [7, 0, 1]];
 fn sign_of(from: u64, to: u64) -> usize
     ensures { (result ≡ sign_place (sgn (pos to -ℤ pos from))) × (result < 3) }
 {
-    if to < from {
-        return 0;
+    match to.cmp(&from) {
+        Ordering::Less => 0,
+        Ordering::Equal => 1,
+        Ordering::Greater => 2,
     }
-    if from < to {
-        return 2;
-    }
-    1
 }
 
 // The place of the signs of the direction from p to q among the pairs of signs.
@@ -68,26 +67,7 @@ pub fn cross_turn(a: Point, b: Point, c: Point, d: Point) -> Turn
     requires { (InRange a) × (InRange b) × (InRange c) × (InRange d) }
     ensures { result ≡ turn (cross (way_to a b) (way_to c d)) }
 {
-    let p = cross_part(a, b, c, d);
-    let n = cross_part(b, a, c, d);
-    if n < p {
-        return Turn::Left;
-    }
-    if p < n {
-        return Turn::Right;
-    }
-    Turn::Straight
-}
-
-// Whether a turn is to the left.
-fn is_left(t: Turn) -> bool
-    ensures { result ≡ is_left t }
-{
-    match t {
-        Turn::Left => true,
-        Turn::Straight => false,
-        Turn::Right => false,
-    }
+    plane::turn_of(cross_part(a, b, c, d), cross_part(b, a, c, d))
 }
 
 // Whether the direction of a b comes before that of c d, counterclockwise from class 0 on.
@@ -97,13 +77,7 @@ pub fn comes_before(a: Point, b: Point, c: Point, d: Point) -> bool
 {
     let k = class_of(a, b);
     let l = class_of(c, d);
-    if k < l {
-        return true;
-    }
-    if l < k {
-        return false;
-    }
-    is_left(cross_turn(a, b, c, d))
+    k < l || k == l && cross_turn(a, b, c, d) == Turn::Left
 }
 
 // Whether a b and c d have one direction.
@@ -111,12 +85,7 @@ pub fn same_direction(a: Point, b: Point, c: Point, d: Point) -> bool
     requires { (InRange a) × (InRange b) × (InRange c) × (InRange d) }
     ensures { result ≡ same_way (way_to a b) (way_to c d) }
 {
-    let k = class_of(a, b);
-    let l = class_of(c, d);
-    if k != l {
-        return false;
-    }
-    plane::is_straight(cross_turn(a, b, c, d))
+    class_of(a, b) == class_of(c, d) && cross_turn(a, b, c, d) == Turn::Straight
 }
 
 // Whether the segment a b, a.x <= b.x, passes strictly below p with a.x <= p.x < b.x.
@@ -124,13 +93,7 @@ fn below_ordered(p: Point, a: Point, b: Point) -> bool
     requires { (InRange p) × (InRange a) × (InRange b) }
     ensures { result ≡ is_below p (record { from = a; to = b }) }
 {
-    if p.x < a.x {
-        return false;
-    }
-    if b.x <= p.x {
-        return false;
-    }
-    is_left(plane::orient(a, b, p))
+    a.x <= p.x && p.x < b.x && plane::orient(a, b, p) == Turn::Left
 }
 
 // Whether the segment a b passes below p.
@@ -182,11 +145,5 @@ pub fn is_higher(x: u64, a: Point, b: Point, c: Point, d: Point) -> bool
 {
     let p = lift_part(x, a, b, c, d);
     let n = lift_part(x, b, a, c, d);
-    if n < p {
-        return true;
-    }
-    if p < n {
-        return false;
-    }
-    is_left(cross_turn(c, d, a, b))
+    n < p || n == p && cross_turn(c, d, a, b) == Turn::Left
 }

@@ -1,4 +1,5 @@
 -- A node's face stored in its row: the row has the face, and the others are as they were. Assumes nothing.
+use Rattle.std.specs.Prelude.{Some}
 use mathlib.Core.Path.{◌≡◌, refl, sym, ap, ◌∙◌}
 use mathlib.Core.Bool.{Bool, true, false, cond, ◌&&◌}
 use mathlib.Core.Logic.{◌⊎◌, inl, inr}
@@ -12,7 +13,6 @@ use lib.Signed.{le_z, non_neg}
 use Rattle.lists.specs.Tests.{same}
 use Rattle.lists.specs.Scans.{all_of}
 use Rattle.lists.specs.Tables.{place}
-use Rattle.lists.specs.declared.Found.TheVariants.{At}
 use Rattle.lists.proofs.Bools.{equal?, same_eq, same_false}
 use Rattle.lists.proofs.Scans.{table_same, all_of-table}
 use Rattle.curves.specs.Curves.{coordinate}
@@ -35,7 +35,7 @@ pub node_once : {l : List ℤ} {n : ℕ} → NodeRows l n → (i j : ℕ) → i 
 node_once {l} {n} t i j s k e =
     let at : (x : ℕ) → x < n → get_or l (x * node_width) (pos 0) ≡ pos (node_at l x).number =
     λ x b. (node_cells_lem l x (rows_all node_width l node_ranges n t.ranges x b)).number in
-    let q : At i ≡ At j = sym (row_place node_width l n (node_rows_rising t) i s)
+    let q : Some i ≡ Some j = sym (row_place node_width l n (node_rows_rising t) i s)
     ∙ ap (λ (z : ℤ). place (same_z z) 0 (column node_width l n)) (at i s ∙ ap pos e ∙ sym (at j k))
     ∙ row_place node_width l n (node_rows_rising t) j k in
     cc

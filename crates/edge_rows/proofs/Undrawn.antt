@@ -1,4 +1,5 @@
 -- An edge undrawn in the tables is undrawn in the map. Assumes nothing.
+use Rattle.std.specs.Prelude.{Option as Found, Some, None}
 use mathlib.Core.Path.{◌≡◌, refl, sym, ap, ap₂, ◌∙◌}
 use mathlib.Core.Logic.{inl, inr}
 use mathlib.Core.Bool.{Bool, true, false, cond, ◌&&◌, ◌||◌}
@@ -13,8 +14,6 @@ use lib.Signed.{le_z, non_neg}
 use Rattle.lists.specs.Tests.{same}
 use Rattle.lists.specs.Scans.{all_of, find}
 use Rattle.lists.specs.Tables.{place}
-use Rattle.lists.specs.declared.Found.{Found}
-use Rattle.lists.specs.declared.Found.TheVariants.{At, Missing}
 use Rattle.lists.proofs.Bools.{which, same_true, eq3}
 use Rattle.tables.specs.Tables.{same_z, column, closed, filled, is_zero}
 use Rattle.tables.proofs.Writes.{removed_at}
@@ -109,11 +108,11 @@ module _ (f : Option ℕ) where
             (p x.number))
 
 module _ {l : List ℤ} {n : ℕ} (t : NodeTable l n) (k : ℕ) (face : ℤ) (least : le_z (negsuc 0) face ≡ true) where
-  where_faced : (r : Found) → place (same_z (pos k)) 0 (column node_width l n) ≡ r → NodeTable (faced_where l face r) n
+  where_faced : (r : Found ℕ) → place (same_z (pos k)) 0 (column node_width l n) ≡ r → NodeTable (faced_where l face r) n
       × (nodes_of (faced_where l face r) n
       ≡ map (λ (x : Node). cond (same x.number k) (with_face (face_of face) x) x) (nodes_of l n))
       × (length (faced_where l face r) ≡ length l)
-  where_faced (At i) e =
+  where_faced (Some i) e =
       let q = node_found l n t.rows.ranges (pos k) i e in
       let num : (node_at l i).number ≡ k = sym (ap nat_abs q.1) in (
         faced_table t i q.0 face least,
@@ -122,7 +121,7 @@ module _ {l : List ℤ} {n : ℕ} (t : NodeTable l n) (k : ℕ) (face : ℤ) (le
             (nodes_of l n)) num,
         length-set l (i * node_width + 3) face,
       )
-  where_faced Missing e = (
+  where_faced None e = (
     t,
     sym (none_faced (face_of face) k (nodes_of l n) (node_missing l n t.rows.ranges k e)),
     refl,

@@ -1,10 +1,8 @@
 -- Tables of nodes and edges with the head beside them that hold a map, whatever its faces are; the same after an edge
 -- is drawn or undrawn.
-use Rattle.std.specs.Prelude.{◌≡◌, Bool, true, cond, ℕ, ◌+◌, ◌*◌, ◌/◌, ◌≤◌, ◌<◌, ℤ, pos, nat_abs, length, get_or, set, drop}
+use Rattle.std.specs.Prelude.{◌≡◌, Bool, true, cond, ℕ, ◌+◌, ◌*◌, ◌/◌, ◌≤◌, ◌<◌, ℤ, pos, nat_abs, length, get_or, set, drop, Option, Some, None}
 use mathlib.Core.List.{List, map, flat_map}
 use Rattle.std.specs.Int.Signed.{non_neg}
-use Rattle.lists.specs.declared.Found.{Found}
-use Rattle.lists.specs.declared.Found.TheVariants.{At, Missing}
 use Rattle.lists.specs.Tests.{same, bit}
 use Rattle.lists.specs.Scans.{all_of, count_of}
 use Rattle.lists.specs.Tables.{place}
@@ -86,9 +84,9 @@ isolated_without l n i node = same (count_of (leaves_node l node) (positions n))
     (bit (same_z (get_or l (i * edge_width + 1) (pos 0)) node) + bit (same_z (get_or l (i * edge_width + 2) (pos 0)) node))
 
 -- the face of the node that is found
-abbrev pub faced_where : List ℤ → ℤ → Found → List ℤ
-faced_where l face (At i) = set l (i * node_width + 3) face
-faced_where l face Missing = l
+abbrev pub faced_where : List ℤ → ℤ → Option ℕ → List ℤ
+faced_where l face (Some i) = set l (i * node_width + 3) face
+faced_where l face None = l
 
 -- a node of the first n that takes the face if it is isolated
 abbrev pub faced_if : List ℤ → ℕ → ℤ → ℤ → Bool → List ℤ

@@ -11,7 +11,6 @@ ghost use Rattle.links.specs.Linking.{unlinked_edge};
 ghost use Rattle.edge_rows.specs.Holds.{new_row, Drawable, Drawn};
 ghost use Rattle.edge_rows.specs.Holds.{isolated_without, faced_if, Undrawable, Undrawn};
 
-use lists::Found;
 use map::Head;
 use map_rows::Incidence;
 
@@ -85,25 +84,18 @@ fn is_isolated_without(edges: &[i64], count: usize, i: usize, node: i64) -> bool
     links::edge_ends(edges, count, node) == own
 }
 
-// The two ends of an edge that is gone: whether they are isolated now.
-#[derive(Clone, Copy)]
-struct Isolated {
-    start: bool,
-    end: bool,
-}
-
-// Edge row i unlinked and closed up.
-fn undraw_edge(edges: &mut [i64], count: usize, i: usize, u: i64, v: i64) -> Isolated
+// Edge row i unlinked and closed up: whether its two ends are isolated now.
+fn undraw_edge(edges: &mut [i64], count: usize, i: usize, u: i64, v: i64) -> (bool, bool)
     requires { EdgeRows edges.old count × (i < count) }
     ensures { (edges.new ≡ closed edge_width (unlinked_edge edges.old count i) count i)
-        × (result.start ≡ isolated_without (unlinked_edge edges.old count i) count i u)
-        × (result.end ≡ isolated_without (unlinked_edge edges.old count i) count i v) }
+        × (result.0 ≡ isolated_without (unlinked_edge edges.old count i) count i u)
+        × (result.1 ≡ isolated_without (unlinked_edge edges.old count i) count i v) }
 {
     links::unlink_edge(edges, count, i);
     let start = is_isolated_without(edges, count, i, u);
     let end = is_isolated_without(edges, count, i, v);
     tables::remove_row(edges, map::EDGE_WIDTH, count, i);
-    Isolated { start, end }
+    (start, end)
 }
 
 // A node that is isolated takes the face.
@@ -112,8 +104,7 @@ fn give_face(nodes: &mut [i64], count: usize, node: i64, face: i64, isolated: bo
     ensures { nodes.new ≡ faced_if nodes.old count node face isolated }
 {
     if isolated {
-        let found = tables::find_row(nodes, map::NODE_WIDTH, count, node);
-        if let Found::At(i) = found {
+        if let Some(i) = tables::find_row(nodes, map::NODE_WIDTH, count, node) {
             set_face(nodes, i, face);
         }
     }
@@ -129,8 +120,8 @@ pub fn undraw(nodes: &mut [i64], edges: &mut [i64], h: Head, i: usize, face: i64
     let e = head::to_usize(h.edges);
     let u = edges[i * map::EDGE_WIDTH + map::START];
     let v = edges[i * map::EDGE_WIDTH + map::END];
-    let isolated = undraw_edge(edges, e, i, u, v);
-    give_face(nodes, n, u, face, isolated.start);
-    give_face(nodes, n, v, face, isolated.end);
+    let (start, end) = undraw_edge(edges, e, i, u, v);
+    give_face(nodes, n, u, face, start);
+    give_face(nodes, n, v, face, end);
     head::changed(h, head::NONE, head::EDGE, head::NONE)
 }

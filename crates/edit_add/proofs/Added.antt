@@ -9,10 +9,11 @@ use lib.Signed.{non_neg}
 use mir.Syntax.{w64}
 use mir.Val.{to_z, of_z}
 use Rattle.lists.specs.Scans.{is_some}
-use Rattle.curves.specs.Curves.{Curve, Run, curve_of, max_points}
+use Rattle.curves.specs.Curves.{Curve, Run, curve_of, start_way, max_points}
 use Rattle.map.specs.declared.Head.{Head}
 use Rattle.map.specs.declared.Variant.{Variant}
 use Rattle.map.specs.Rows.{Map, Sizes, map_of, lent_with, sizes_of, lent}
+use Rattle.map.specs.Links.{corner_face}
 use Rattle.map.specs.Edits.{drawn_in, splits_face, split_face, add_edge}
 use Rattle.map.specs.Reasons.{first_reason, add_edge_reasons}
 use Rattle.map.proofs.Surplus.{Left}
@@ -23,7 +24,7 @@ use Rattle.outcomes.proofs.Formed.{edge-next}
 use Rattle.outcomes.proofs.FoundRows.{node-met}
 use Rattle.outcomes.proofs.Words.{count_read}
 use Rattle.reason_edges.specs.declared.Judged.{Judged}
-use Rattle.reason_edges.proofs.Adding.{JudgedClear}
+use Rattle.reason_edges.specs.Judging.{judged_add}
 use Rattle.edge_rows.specs.Holds.{Drawable, Drawn}
 use Rattle.edge_rows.proofs.Drawn.{drawn-points}
 use Rattle.edge_rows.proofs.Formed.{held}
@@ -67,8 +68,8 @@ module _ {nodes edges faces : List ℤ} {h : Head} (f : Formed nodes edges faces
   -- an edge that nothing turns down
   module _ {how : Variant} (u v : ℕ) (l : List ℤ)
       (t : AddEdge how s m (node_at nodes u).number (node_at nodes v).number (curve_of l)) {r : Judged}
-      (known : JudgedClear m (node_at nodes u).number (node_at nodes v).number (curve_of l) r) {face : ℤ}
-      (ef : face ≡ r.face) where
+      (known : r ≡ judged_add m (node_at nodes u).number (node_at nodes v).number (curve_of l)) {face : ℤ}
+      (read : face ≡ r.face) where
     abbrev a : ℕ
     a = (node_at nodes u).number
 
@@ -77,6 +78,9 @@ module _ {nodes edges faces : List ℤ} {h : Head} (f : Formed nodes edges faces
 
     abbrev c : Curve
     c = curve_of l
+
+    ef : face ≡ pos (corner_face m a (start_way c))
+    ef = read ∙ ap (λ (j : Judged). j.face) known
 
     pub add_drawable : u < nat_abs h.nodes → v < nat_abs h.nodes → Run l → Drawable nodes edges h u v l face
     unfolding map_of
@@ -88,24 +92,24 @@ module _ {nodes edges faces : List ℤ} {h : Head} (f : Formed nodes edges faces
           run = run;
           room = omega (arith, t.room.edges, edges_length edges (nat_abs h.edges));
           number = omega (arith, t.supply.edges);
-          natural = ap non_neg (ef ∙ known.face);
+          natural = ap non_neg (ef);
         }
 
     module _ {nodes' edges' : List ℤ} {h' : Head} (d : Drawn nodes edges h u v l face nodes' edges' h') where
       pub drawn_splittable : r.splits ≡ true → Splittable nodes' edges' faces h' face
-      drawn_splittable e = splits f u v l t (ef ∙ known.face) d (sym known.splits ∙ e)
+      drawn_splittable e = splits f u v l t (ef) d (sym (ap (λ (j : Judged). j.splits) known) ∙ e)
 
       map-drawn : map_of (lent nodes' edges' faces h') ≡ drawn_in a b c m
-      map-drawn = map_is f u v l t (ef ∙ known.face) d
+      map-drawn = map_is f u v l t (ef) d
 
       -- no face is split
       pub joined-lent : r.splits ≡ false → lent_with (boxes f) s (add_edge how a b c m) ≡ lent nodes' edges' faces h'
-      joined-lent e = ap (lent_with (boxes f) s) (add-joined how a b c m (sym known.splits ∙ e) ∙ sym map-drawn)
+      joined-lent e = ap (lent_with (boxes f) s) (add-joined how a b c m (sym (ap (λ (j : Judged). j.splits) known) ∙ e) ∙ sym map-drawn)
           ∙ holds_lent f d.nodes_long d.edges_long (drawn-points d)
           (held_holds (drawn_held f d) (boxes f) (drawn-table f d))
 
       last_number_lem : (edge_at edges' (nat_abs h'.edges - 1)).number ≡ m.next.edges
-      last_number_lem = ap (λ (o : Outline). o.arc.num) (last f u v l t (ef ∙ known.face) d)
+      last_number_lem = ap (λ (o : Outline). o.arc.num) (last f u v l t (ef) d)
 
       -- a face is split
       pub parted-lent : {nodes'' edges'' faces'' : List ℤ} {h'' : Head} → r.splits ≡ true
@@ -113,6 +117,6 @@ module _ {nodes edges faces : List ℤ} {h : Head} (f : Formed nodes edges faces
           (map_of (lent nodes' edges' faces h'))) nodes'' edges'' faces'' h''
           → lent_with (boxes f) s (add_edge how a b c m) ≡ lent nodes'' edges'' faces'' h''
       parted-lent e w =
-          ap (lent_with (boxes f) s) (add-parted how a b c m (sym known.splits ∙ e)
+          ap (lent_with (boxes f) s) (add-parted how a b c m (sym (ap (λ (j : Judged). j.splits) known) ∙ e)
           ∙ sym (ap₂ (split_face how) last_number_lem map-drawn))
           ∙ holds_lent f d.nodes_long d.edges_long (drawn-points d) w

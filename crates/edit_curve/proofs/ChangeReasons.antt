@@ -2,16 +2,15 @@
 use mathlib.Core.Path.{◌≡◌, refl, sym, ◌∙◌}
 use mathlib.Core.Bool.{Bool, true, false}
 use mathlib.Core.List.{List, [], ◌∷◌, ◌++◌}
-use Prim.Native.Nat.{ℕ}
+use Prim.Native.Nat.{ℕ, ◌<◌}
 use lib.IntN.{ℤ, nat_abs}
 use Rattle.curves.specs.Curves.{curve_of}
 use Rattle.map.specs.declared.Head.{Head}
 use Rattle.map.specs.Reasons.{Reasons, first_reason, meeting_reasons, order_changes}
 use Rattle.map_rows.specs.Rows.{node_at, node_map, edge_at, edge_map}
 use Rattle.reason_curves.specs.Sent.{curve_reasons_at, edges_but}
-use Rattle.map.proofs.Reasons.{first_hit, first_miss, first_none, first_after}
+use Rattle.map.proofs.Reasons.{first_hit, first_miss, first_none, first_append, first_after}
 use Rattle.edit_curve.specs.Change.{taken_at, turn_reasons, change_reasons}
-use Rattle.edge_rows.proofs.FirstReasons.{first_of}
 
 -- from 11 on
 module _ (nodes : List ℤ) (n : ℕ) (edges : List ℤ) (count i : ℕ) (c : List ℤ) where
@@ -30,9 +29,9 @@ module _ (nodes : List ℤ) (n : ℕ) (edges : List ℤ) (count i : ℕ) (c : Li
     after-taken = first_miss 11 (taken_at edges count i c) (meeting ++ (19, turned) ∷ []) (sym q ∙ t)
 
     pub turn-meeting : {r : ℕ} → r ≡ first_reason
-        (meeting_reasons (node_map nodes n) (edges_but edges count i) (curve_of c)) → (r ≡ 0 → ⊥) → r
+        (meeting_reasons (node_map nodes n) (edges_but edges count i) (curve_of c)) → 0 < r → r
         ≡ first_reason (turn_reasons nodes n edges count i c)
-    turn-meeting {r} m g = first_of meeting ((19, turned) ∷ []) r m g ∙ sym after-taken
+    turn-meeting {r} m some = sym (after-taken ∙ first_append meeting ((19, turned) ∷ []) r some (sym m))
 
     module _ (m : first_reason (meeting_reasons (node_map nodes n) (edges_but edges count i) (curve_of c)) ≡ 0) {d : Bool}
         (p : d ≡ order_changes (edge_map edges count) (edge_at edges i).number (curve_of c)) where
@@ -54,8 +53,8 @@ module _ (nodes edges : List ℤ) (h : Head) (i u v : ℕ) (c : List ℤ) where
   turns = turn_reasons nodes (nat_abs h.nodes) edges (nat_abs h.edges) i c
 
   pub change_ends : {r : ℕ} → r ≡ first_reason (curve_reasons_at (curve_of c) (node_at nodes u).at (node_at nodes v).at)
-      → (r ≡ 0 → ⊥) → r ≡ first_reason (change_reasons nodes edges h i u v c)
-  change_ends {r} e d = first_of ends turns r e d
+      → 0 < r → r ≡ first_reason (change_reasons nodes edges h i u v c)
+  change_ends {r} e some = sym (first_append ends turns r some (sym e))
 
   pub change_turns : {r : ℕ} → first_reason (curve_reasons_at (curve_of c) (node_at nodes u).at (node_at nodes v).at) ≡ 0
       → r ≡ first_reason (turn_reasons nodes (nat_abs h.nodes) edges (nat_abs h.edges) i c)
@@ -64,9 +63,9 @@ module _ (nodes edges : List ℤ) (h : Head) (i u v : ℕ) (c : List ℤ) where
 
   -- 22 behind them
   module _ (b : Bool) where
-    pub redraw_changed : {r : ℕ} → r ≡ first_reason (change_reasons nodes edges h i u v c) → (r ≡ 0 → ⊥)
+    pub redraw_changed : {r : ℕ} → r ≡ first_reason (change_reasons nodes edges h i u v c) → 0 < r
         → r ≡ first_reason (change_reasons nodes edges h i u v c ++ (22, b) ∷ [])
-    redraw_changed {r} e d = first_of (ends ++ turns) ((22, b) ∷ []) r e d
+    redraw_changed {r} e some = sym (first_append (ends ++ turns) ((22, b) ∷ []) r some (sym e))
 
     module _ (e : first_reason (change_reasons nodes edges h i u v c) ≡ 0) where
       after-changed : first_reason (change_reasons nodes edges h i u v c ++ (22, b) ∷ []) ≡ first_reason ((22, b) ∷ [])

@@ -1,4 +1,5 @@
 -- What kind 6 answers: the reasons against it, and the tables it leaves. Assumes nothing.
+use Rattle.std.specs.Prelude.{None}
 use mathlib.Core.Path.{◌≡◌, refl, sym, ap, ◌∙◌}
 use mathlib.Core.Bool.{true, cond, ◌&&◌, false≢true}
 use mathlib.Core.List.{List, [], ◌∷◌, ◌++◌, map, flat_map}
@@ -10,7 +11,6 @@ use lib.Signed.{non_neg}
 use Rattle.lists.specs.Tests.{same}
 use Rattle.lists.specs.Scans.{is_some}
 use Rattle.lists.specs.Tables.{place}
-use Rattle.lists.specs.declared.Found.TheVariants.{Missing}
 use Rattle.curves.specs.Curves.{Run, curve_of}
 use Rattle.curves.proofs.Runs.{and_left, and_right}
 use Rattle.map.specs.declared.Head.{Head}
@@ -44,7 +44,7 @@ use Rattle.edit_curve.specs.Change.{taken_at, change_reasons, changed_along, End
 
 -- a node that is there is not missing
 pub node_placed : {l : List ℤ} {n : ℕ} → NodeRows l n → (z : ℤ) → non_neg z ≡ true → has_node (node_map l n) (nat_abs z)
-    ≡ true → place (same_z z) 0 (column node_width l n) ≡ Missing → ⊥
+    ≡ true → place (same_z z) 0 (column node_width l n) ≡ None → ⊥
 node_placed {l} {n} t (pos k) s has e = false≢true (sym (ap is_some (node_missing l n t.ranges k e)) ∙ has)
 node_placed t (negsuc k) s has e = false≢true s
 
@@ -60,7 +60,7 @@ module _ {nodes edges faces : List ℤ} {h : Head} (f : Formed nodes edges faces
 
   -- a row that is missing is reason 4
   pub change_missing : (z : ℤ) (sent : List ℤ)
-      → place (same_z z) 0 (column edge_width edges (nat_abs h.edges)) ≡ Missing
+      → place (same_z z) 0 (column edge_width edges (nat_abs h.edges)) ≡ None
       → first_reason (reasons s m (ChangeEdgeGeom z sent)) ≡ 4
   unfolding reasons
   change_missing z sent e = first_hit 4 (no_edge m z) _ (edge_none f z e)

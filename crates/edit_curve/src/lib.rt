@@ -5,23 +5,40 @@ ghost use Rattle.std.specs.Prelude.{◌≡◌, true, ◌*◌, ◌≤◌, ◌<◌
 ghost use Rattle.std.proofs.Math.Seq.{paste};
 ghost use Rattle.std.specs.Int.Signed.{non_neg};
 ghost use Rattle.lists.specs.Tables.{place};
-ghost use Rattle.lists.specs.declared.Found.TheVariants.{At};
 ghost use Rattle.tables.specs.Tables.{same_z, column};
 ghost use Rattle.curves.specs.Curves.{Run, curve_of};
 ghost use Rattle.map.specs.Rows.{map_of, edge_cells, has_node};
 ghost use Rattle.map.specs.Edits.{with_curve};
 ghost use Rattle.map.specs.Reasons.{first_reason, change_geom_reasons};
+ghost use Rattle.map.specs.Refusals.{refusal_of};
 ghost use Rattle.map.specs.Tickets.{ChangeEdgeGeom};
 ghost use Rattle.map.specs.Loans.{lent_now};
 ghost use Rattle.map_rows.specs.Rows.{node_map, edge_at, EdgeRow, NodeRows, EdgeRows};
-ghost use Rattle.outcomes.specs.Outcomes.{Formed, edited, outcome_now};
+ghost use Rattle.outcomes.specs.Outcomes.{Formed, edited, done_of, outcome_now};
 ghost use Rattle.edge_rows.specs.Holds.{NodeEdgeTables};
 ghost use Rattle.edit_curve.specs.Change.{taken_at, turn_reasons, change_reasons, changed_along, EndsAt};
 
-use lists::Found;
-use map::Head;
+use map::{Head, Refusal};
 use map_rows::Incidence;
-use outcomes::Done;
+use outcomes::Carried;
+
+// ---- the nodes of an edge row
+
+// The node where an edge row starts.
+fn start_of(edges: &[i64], i: usize) -> i64
+    requires { EdgeRow edges.now i }
+    ensures { result ≡ pos (edge_at edges.now i).start }
+{
+    edges[i * map::EDGE_WIDTH + map::START]
+}
+
+// The node where an edge row ends.
+fn end_of(edges: &[i64], i: usize) -> i64
+    requires { EdgeRow edges.now i }
+    ensures { result ≡ pos (edge_at edges.now i).end }
+{
+    edges[i * map::EDGE_WIDTH + map::END]
+}
 
 // ---- the reasons
 
@@ -30,33 +47,34 @@ fn direction_is_taken(edges: &[i64], count: usize, i: usize, c: &[i64]) -> bool
     requires { EdgeRows edges.now count × (i < count) × Run c.now }
     ensures { result ≡ taken_at edges.now count i c.now }
 {
-    let start = edges[i * map::EDGE_WIDTH + map::START];
-    let end = edges[i * map::EDGE_WIDTH + map::END];
-    reason_departures::direction_taken(edges, count, i, start, end, c)
+    reason_departures::direction_taken(edges, count, i, start_of(edges, i), end_of(edges, i), c)
 }
 
-// The first reason from 11 on against a curve for the edge of row i; 0 for none.
-fn turn_reason(nodes: &[i64], n: usize, edges: &[i64], count: usize, i: usize, c: &[i64]) -> u64
+// 11, 14, 23, 15, 24 and 19, against a curve for the edge of row i.
+fn check_turns(
+    nodes: &[i64],
+    n: usize,
+    edges: &[i64],
+    count: usize,
+    i: usize,
+    c: &[i64],
+) -> Result<(), Refusal>
     requires { NodeRows nodes.now n × EdgeRows edges.now count × (count ≤ 2000) × (i < count) × Run c.now }
-    ensures { result ≡ first_reason (turn_reasons nodes.now n edges.now count i
+    ensures { refusal_of result ≡ first_reason (turn_reasons nodes.now n edges.now count i
         c.now) }
 {
     if direction_is_taken(edges, count, i, c) {
-        return 11;
+        return Err(Refusal::DirectionTaken);
     }
-    let meeting = reason_curves::meeting_reason(nodes, n, edges, count, i, c);
-    if meeting != 0 {
-        return meeting;
-    }
+    reason_curves::check_meeting(nodes, n, edges, count, i, c)?;
     if reason_departures::order_changes(edges, count, i, c) {
-        19
-    } else {
-        0
+        return Err(Refusal::OrderChanges);
     }
+    Ok(())
 }
 
-// The first reason from 7 on, but for 22, against a curve for the edge of row i, between node rows u and v; 0 for none.
-fn change_reason(
+// From 7 on, but for 22, against a curve for the edge of row i, between node rows u and v.
+fn check_change(
     nodes: &[i64],
     edges: &[i64],
     h: Head,
@@ -64,23 +82,20 @@ fn change_reason(
     u: usize,
     v: usize,
     c: &[i64],
-) -> u64
+) -> Result<(), Refusal>
     requires { NodeEdgeTables nodes.now edges.now h × (i < nat_abs h.edges)
         × (u < nat_abs h.nodes) × (v < nat_abs h.nodes) × Run c.now }
-    ensures { result ≡ first_reason (change_reasons nodes.now edges.now h i u v
+    ensures { refusal_of result ≡ first_reason (change_reasons nodes.now edges.now h i u v
         c.now) }
 {
-    let reason = reason_curves::curve_reason(nodes, u, v, c);
-    if reason != 0 {
-        return reason;
-    }
+    reason_curves::check_curve(nodes, u, v, c)?;
     let n = head::to_usize(h.nodes);
     let e = head::to_usize(h.edges);
-    turn_reason(nodes, n, edges, e, i, c)
+    check_turns(nodes, n, edges, e, i, c)
 }
 
-// The first reason from 7 on against a curve for the edge of row i, between the nodes of rows u and v; 0 for none.
-fn redraw_reason(
+// From 7 on, against a curve for the edge of row i, between the nodes of rows u and v.
+fn check_redraw(
     nodes: &[i64],
     edges: &[i64],
     faces: &[i64],
@@ -89,22 +104,18 @@ fn redraw_reason(
     u: usize,
     v: usize,
     c: &[i64],
-) -> u64
+) -> Result<(), Refusal>
     requires { Formed nodes.now edges.now faces.now h × (i < nat_abs h.edges)
         × EndsAt nodes.now edges.now h i u v × Run c.now }
-    ensures { result ≡ first_reason (change_geom_reasons
+    ensures { refusal_of result ≡ first_reason (change_geom_reasons
         (map_of (lent_now nodes.now edges.now faces.now h))
         (edge_at edges.now i).number (curve_of c.now)) }
 {
-    let reason = change_reason(nodes, edges, h, i, u, v, c);
-    if reason != 0 {
-        return reason;
-    }
+    check_change(nodes, edges, h, i, u, v, c)?;
     if reason_sides::sides_change(nodes, edges, faces, h, i, c) {
-        22
-    } else {
-        0
+        return Err(Refusal::SidesChange);
     }
+    Ok(())
 }
 
 // ---- the curve written
@@ -144,19 +155,16 @@ fn change_along(
     u: usize,
     v: usize,
     c: &[i64],
-) -> Done
+) -> Result<Carried, Refusal>
     requires { Formed nodes.now edges.old faces.now h × (i < nat_abs h.edges)
         × EndsAt nodes.now edges.old h i u v × Run c.now }
-    ensures { outcome_now nodes.now edges.new faces.now result
+    ensures { outcome_now nodes.now edges.new faces.now (done_of h result)
         ≡ changed_along (lent_now nodes.now edges.old faces.now h)
         (edge_at edges.old i).number (curve_of c.now) }
 {
-    let reason = redraw_reason(nodes, edges, faces, h, i, u, v, c);
-    if reason != 0 {
-        return outcomes::refused(h, reason);
-    }
+    check_redraw(nodes, edges, faces, h, i, u, v, c)?;
     write_curve(edges, i, c);
-    outcomes::carried(h, 0)
+    Ok(Carried { head: h, value: 0 })
 }
 
 // Kind 6 on the edge of row i, between the nodes of rows u and v, by the points sent.
@@ -169,19 +177,14 @@ fn change_between(
     u: usize,
     v: usize,
     sent: &[i64],
-) -> Done
+) -> Result<Carried, Refusal>
     requires { Formed nodes.now edges.old faces.now h × (i < nat_abs h.edges)
         × EndsAt nodes.now edges.old h i u v }
-    ensures { outcome_now nodes.now edges.new faces.now result
+    ensures { outcome_now nodes.now edges.new faces.now (done_of h result)
         ≡ edited (lent_now nodes.now edges.old faces.now h)
         (ChangeEdgeGeom (pos (edge_at edges.old i).number) sent.now) }
 {
-    let read = reason_curves::read_curve(sent, head::most_points(h));
-    let reason = read.reason;
-    if reason != 0 {
-        return outcomes::refused(h, reason);
-    }
-    let line = read.line;
+    let line = reason_curves::read_curve(sent, head::most_points(h))?;
     let cells = line.cells;
     let n = line.count * 2;
     change_along(nodes, edges, faces, h, i, u, v, &cells[0..n])
@@ -189,33 +192,13 @@ fn change_between(
 
 // ---- rows looked up
 
-// The node where an edge row starts.
-fn start_of(edges: &[i64], i: usize) -> i64
-    requires { EdgeRow edges.now i }
-    ensures { result ≡ pos (edge_at edges.now i).start }
-{
-    edges[i * map::EDGE_WIDTH + map::START]
-}
-
-// The node where an edge row ends.
-fn end_of(edges: &[i64], i: usize) -> i64
-    requires { EdgeRow edges.now i }
-    ensures { result ≡ pos (edge_at edges.now i).end }
-{
-    edges[i * map::EDGE_WIDTH + map::END]
-}
-
 // The row of a node that is there.
 fn row_of(nodes: &[i64], count: usize, node: i64) -> usize
     requires { NodeRows nodes.now count × (non_neg node ≡ true)
         × (has_node (node_map nodes.now count) (nat_abs node) ≡ true) }
-    ensures { place (same_z node) 0 (column 4 nodes.now count) ≡ At result }
+    ensures { place (same_z node) 0 (column 4 nodes.now count) ≡ Some result }
 {
-    let found = tables::find_row(nodes, map::NODE_WIDTH, count, node);
-    let Found::At(i) = found else {
-        return 0;
-    };
-    i
+    tables::find_row(nodes, map::NODE_WIDTH, count, node).unwrap_or(0)
 }
 
 // Kind 6 on the edge of row i.
@@ -226,9 +209,9 @@ fn change_at_row(
     h: Head,
     i: usize,
     sent: &[i64],
-) -> Done
+) -> Result<Carried, Refusal>
     requires { Formed nodes.now edges.old faces.now h × (i < nat_abs h.edges) }
-    ensures { outcome_now nodes.now edges.new faces.now result
+    ensures { outcome_now nodes.now edges.new faces.now (done_of h result)
         ≡ edited (lent_now nodes.now edges.old faces.now h)
         (ChangeEdgeGeom (pos (edge_at edges.old i).number) sent.now) }
 {
@@ -246,16 +229,15 @@ pub fn change_curve(
     h: Head,
     edge: i64,
     sent: &[i64],
-) -> Done
+) -> Result<Carried, Refusal>
     requires { Formed nodes.now edges.old faces.now h }
-    ensures { outcome_now nodes.now edges.new faces.now result
+    ensures { outcome_now nodes.now edges.new faces.now (done_of h result)
         ≡ edited (lent_now nodes.now edges.old faces.now h)
         (ChangeEdgeGeom edge sent.now) }
 {
     let e = head::to_usize(h.edges);
-    let found = tables::find_row(edges, map::EDGE_WIDTH, e, edge);
-    let Found::At(i) = found else {
-        return outcomes::refused(h, 4);
+    let Some(i) = tables::find_row(edges, map::EDGE_WIDTH, e, edge) else {
+        return Err(Refusal::NoSuchRow);
     };
     change_at_row(nodes, edges, faces, h, i, sent)
 }

@@ -8,10 +8,11 @@ use mathlib.Core.Option
 use mathlib.Core.Option.{Option, none, some}
 use Prim.Native.Nat.{ℕ, zero, suc, ◌%◌}
 use native.Mathlib.Omega.{arith}
-use lib.IntN.{ℤ, pos}
+use lib.IntN.{ℤ, pos, nat_abs}
 use lib.ListN.{length, get_or, drop}
 use Rattle.lists.specs.Tests.{same}
 use Rattle.lists.specs.Scans.{is_some}
+use Rattle.map.specs.declared.Head.{Head}
 use Rattle.map.specs.declared.Variant.TheVariants.{New, Mod}
 use Rattle.map.specs.Rows.{Edge, Lent, map_of, sizes_of, rectangle, lent_with, at_nodes}
 use Rattle.map.specs.Tickets.{Ticket, AddIsoNode, MoveIsoNode, RemoveIsoNode, AddIsoEdge, RemoveIsoEdge, ChangeEdgeGeom}
@@ -20,12 +21,13 @@ use Rattle.map.specs.Edits.{add_iso_node, move_iso_node, remove_iso_node}
 use Rattle.map.specs.Ticket.{Outcome, done, unless, carried}
 use Rattle.outcomes.specs.Outcomes.{reason_against, unless_with, edited, decided}
 use Rattle.outcomes.specs.Variants.{split_ticket, heal_ticket, add_ticket, remove_ticket}
-use Rattle.edit_rectangles.specs.FacePairs.{affected_before}
+use Rattle.edit_rectangles.specs.declared.Affected.{Affected}
+use Rattle.edit_rectangles.specs.FacePairs.{affected_before, affected_after}
 use Rattle.edit_rectangles.proofs.Covers.{named_edges, draws, named_pairs}
 use Rattle.edit_dispatch.specs.declared.Routine.{Routine}
 use Rattle.edit_dispatch.specs.declared.Routine.TheVariants.{AddNode, MoveNode, RemoveNode, AddIsolatedEdge}
 use Rattle.edit_dispatch.specs.declared.Routine.TheVariants.{RemoveIsolatedEdge, ChangeCurve, Split, Heal}
-use Rattle.edit_dispatch.specs.declared.Routine.TheVariants.{AddEdge, RemoveEdge, Unknown}
+use Rattle.edit_dispatch.specs.declared.Routine.TheVariants.{AddEdge, RemoveEdge}
 use Rattle.edit_dispatch.specs.Shaped.{shaped, shaped_rows, read_for, edges_named, draws_edge}
 
 -- ---- what numbers are read as
@@ -106,7 +108,19 @@ module _ (l : List ℤ) (n : ℕ) where
       (record { named = refl; draws = refl }) e
   says (RemoveEdge Mod) (z ∷ r) k e = one_has (Says (RemoveEdge Mod) (z ∷ r)) (remove_ticket Mod) r
       (record { named = refl; draws = refl }) e
-  says Unknown t k e = absurd (no_some e)
+
+-- the faces whose rectangles are set are those of the ticket
+module _ (edges now : List ℤ) (h after : Head) (r : Routine) (t : List ℤ) {k : Ticket}
+    (reads : read_for r (drop 1 t) ≡ some k) where
+  pub affected_told : {named count : ℕ} {draw : Bool} {b a : Affected} → named ≡ edges_named r → count
+      ≡ nat_abs h.edges → b ≡ affected_before named edges count t → draw ≡ draws_edge r → a
+      ≡ affected_after draw now h after b → a
+      ≡ affected_after (draws k) now h after (named_pairs edges (nat_abs h.edges) (named_edges k))
+  affected_told n e b d a =
+      let said = says edges (nat_abs h.edges) r t k reads in
+      a
+      ∙ (λ i. affected_after ((d ∙ sym said.draws) i) now h after
+      ((b ∙ (λ j. affected_before (n j) edges (e j) t) ∙ sym said.named) i))
 
 -- ---- what the rows came to
 

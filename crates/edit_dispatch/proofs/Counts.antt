@@ -16,7 +16,7 @@ use Rattle.outcomes.specs.Variants.{split_ticket, heal_ticket, add_ticket, remov
 use Rattle.edit_dispatch.specs.declared.Routine.{Routine}
 use Rattle.edit_dispatch.specs.declared.Routine.TheVariants.{AddNode, MoveNode, RemoveNode, AddIsolatedEdge}
 use Rattle.edit_dispatch.specs.declared.Routine.TheVariants.{RemoveIsolatedEdge, ChangeCurve, Split, Heal}
-use Rattle.edit_dispatch.specs.declared.Routine.TheVariants.{AddEdge, RemoveEdge, Unknown}
+use Rattle.edit_dispatch.specs.declared.Routine.TheVariants.{AddEdge, RemoveEdge}
 use Rattle.edit_dispatch.specs.Shaped.{kind_for, count_fits, read_for, edges_named}
 
 -- ---- numbers
@@ -116,7 +116,6 @@ unfit (Split how) t p e = three_none (split_ticket how) t (not_so t 3 p e)
 unfit (Heal how) t p e = two_none (heal_ticket how) t (not_so t 2 p e)
 unfit (AddEdge how) t p e = two_curve_none (add_ticket how) t (pairs_unfit _ 2 e)
 unfit (RemoveEdge how) t p e = one_none (remove_ticket how) t (not_so t 1 p e)
-unfit Unknown t p e = refl
 
 -- ---- the edges that a ticket names
 
@@ -132,4 +131,3 @@ named_fit (Split how) n h e = omega (arith, so_many n 2 e)
 named_fit (Heal how) n h e = omega (arith, so_many n 1 e)
 named_fit (AddEdge how) n h e = omega arith
 named_fit (RemoveEdge how) n h e = omega (arith, so_many n 0 e)
-named_fit Unknown n h e = omega arith

@@ -1,7 +1,10 @@
 -- What a first number is read as, and a ticket on tables in form: reasons 1 and 2 do not hold. Assumes nothing.
+use Rattle.std.specs.Prelude.{Some, None, option_map, slice_get}
+use Rattle.std.specs.Prelude as std
+use Rattle.std.proofs.lemmas.Option.{same_Some}
 use mathlib.Core.Path.{◌≡◌, refl, sym, ap, ◌∙◌}
 use mathlib.Core.Bool.{true, not}
-use mathlib.Core.List.{List, [], ◌∷◌, ◌++◌}
+use mathlib.Core.List.{List, [], ◌∷◌, ◌++◌, map}
 use mathlib.Core.Logic.{inl, inr}
 use mathlib.Core.Option.{Option, none, some}
 use Prim.Native.Nat.{ℕ, zero, suc, ◌<◌}
@@ -23,8 +26,9 @@ use Rattle.map.specs.Ticket.{ticket, judged, refused, lent_reasons}
 use Rattle.map.proofs.Reasons.{first_hit, first_miss}
 use Rattle.outcomes.specs.declared.Done.{Done}
 use Rattle.outcomes.specs.Outcomes.{Formed, outcome}
-use Rattle.edit_dispatch.specs.declared.Routine.TheVariants.{Unknown}
-use Rattle.edit_dispatch.specs.Shaped.{shaped, shaped_rows, routines, routine_of, kind_for, read_for}
+use Rattle.edit_dispatch.specs.declared.Kind.{Kind}
+use Rattle.edit_dispatch.specs.declared.Routine.{Routine}
+use Rattle.edit_dispatch.specs.Shaped.{shaped, shaped_rows, routines, routine_of, kind_for, kind_sent, read_for}
 
 -- ---- what a first number is read as
 
@@ -43,30 +47,64 @@ none_of (suc n) k x h e l = elim (equal? k n) [
 
 -- a kind, and no kind
 module _ {z : ℤ} (s : SFits w64 z) where
-  pub kind_told : (k : ℕ) → of_z w64 z ≡ suc k → k < 14 → kind_for (get_or routines k Unknown) ≡ kind_for (routine_of z)
+  pub kind_told : (k : ℕ) → of_z w64 z ≡ suc k → k < 14
+      → option_map kind_for (get_or (map Some routines) k None) ≡ kind_sent z
   kind_told k e l =
       let is : z ≡ pos (suc k) = sym (to_z-of_z {w = w64} s) ∙ ap (to_z w64) e ∙ to_z_pos w64 (omega arith) in
-      ap (λ (y : ℤ). kind_for (routine_of y)) (sym is)
+      ap kind_sent (sym is)
 
-pub kind_unknown : (z : ℤ) → NoneOf 14 (of_z w64 z) → kind_for Unknown ≡ kind_for (routine_of z)
+pub kind_unknown : (z : ℤ) → NoneOf 14 (of_z w64 z) → None ≡ kind_sent z
 kind_unknown (pos zero) h = refl
 kind_unknown (pos (suc k)) h =
     elim (which (ltb k 14)) [
       | inl e ↦ absurd (none_of 14 k (suc k) h refl (ltb-true k 14 e))
-      | inr e ↦ ap kind_for (sym (get_or-eq_default routines Unknown (ltb-false k 14 e)))
+      | inr e ↦ ap (option_map kind_for) (sym (get_or-eq_default (map Some routines) None (ltb-false k 14 e)))
     ]
 kind_unknown (negsuc k) h = refl
 
 -- the kinds of tickets are those of routines
-read-kind : (t : List ℤ) → read_for (routine_of (get_or t 0 (pos 0))) (drop 1 t) ≡ read t
+abbrev pub read_by : std.Option Routine → List ℤ → Option Ticket
+read_by None = λ r. none
+read_by (Some r) = read_for r
+
+read-kind : (t : List ℤ) → read_by (routine_of (get_or t 0 (pos 0))) (drop 1 t) ≡ read t
 unfolding read
 read-kind [] = refl
 read-kind (pos zero ∷ r) = refl
-read-kind (pos (suc k) ∷ r) = ap (λ (g : List ℤ → Option Ticket). g r) (sym (get_or-map read_for routines k Unknown))
+read-kind (pos (suc k) ∷ r) =
+    ap (λ (g : List ℤ → Option Ticket). g r) (sym (get_or-map read_by (map Some routines) k None))
 read-kind (negsuc k ∷ r) = refl
 
+module _ (t : List ℤ) where
+  abbrev asked : std.Option Routine
+  asked = routine_of (get_or t 0 (pos 0))
+
+  by_routine : {o : std.Option Routine} → asked ≡ o → read t ≡ read_by o (drop 1 t)
+  by_routine e = sym (read-kind t) ∙ ap (λ (o : std.Option Routine). read_by o (drop 1 t)) e
+
+  -- no kind, and a kind
+  pub sent_none : kind_sent (get_or t 0 (pos 0)) ≡ None → read t ≡ none
+  sent_none = go asked refl
+    where
+      go : (o : std.Option Routine) → asked ≡ o → option_map kind_for o ≡ None → read t ≡ none
+      go None q e = by_routine q
+      go (Some r) q e = cc
+
+  pub sent_some : {k : Kind} → kind_sent (get_or t 0 (pos 0)) ≡ Some k
+      → (k ≡ kind_for k.routine) × (read t ≡ read_for k.routine (drop 1 t))
+  sent_some {k} = go asked refl
+    where
+      go : (o : std.Option Routine) → asked ≡ o → option_map kind_for o ≡ Some k
+          → (k ≡ kind_for k.routine) × (read t ≡ read_for k.routine (drop 1 t))
+      go None q e = (cc, cc)
+      go (Some r) q e =
+          let s = same_Some (kind_for r) k e in (
+            sym s ∙ ap (λ (j : Kind). kind_for j.routine) s,
+            by_routine q ∙ ap (λ (j : Kind). read_for j.routine (drop 1 t)) s,
+          )
+
 -- no number
-pub read-empty : (t : List ℤ) → length t ≡ 0 → read_for (routine_of (get_or t 0 (pos 0))) (drop 1 t) ≡ none
+pub read-empty : (t : List ℤ) → length t ≡ 0 → read_by (routine_of (get_or t 0 (pos 0))) (drop 1 t) ≡ none
 read-empty [] n = refl
 read-empty (z ∷ r) n = absurd (omega arith)
 
@@ -83,6 +121,16 @@ pub rows_none : (nodes edges faces : List ℤ) (h : Head) {o : Option Ticket} {d
     ≡ shaped_rows (lent nodes edges faces h) o
 rows_none nodes edges faces h e n = rw (n, e)
 
+-- no number, and a first one
+pub first_none : (t : List ℤ) → std.None ≡ slice_get t 0 → read t ≡ none
+unfolding read
+first_none [] e = refl
+first_none (z ∷ r) e = cc
+
+pub first_some : (t : List ℤ) {z : ℤ} → Some z ≡ slice_get t 0 → (0 < length t) × (z ≡ get_or t 0 (pos 0))
+first_some [] e = (cc, cc)
+first_some (x ∷ r) {z} e = (omega arith, same_Some z x e)
+
 -- ---- tables in form
 
 module _ {nodes edges faces : List ℤ} {h : Head} (f : Formed nodes edges faces h) where
@@ -95,10 +143,6 @@ module _ {nodes edges faces : List ℤ} {h : Head} (f : Formed nodes edges faces
   judged-shaped none = ap (refused (lent nodes edges faces h)) (past ((3, true) ∷ []) ∙ first_hit 3 true [] refl)
   judged-shaped (some t) = rw past
 
-  ticket-shaped : (t : List ℤ) → ticket (lent nodes edges faces h) t ≡ shaped (lent nodes edges faces h) (read t)
+  pub ticket-shaped : (t : List ℤ) → ticket (lent nodes edges faces h) t ≡ shaped (lent nodes edges faces h) (read t)
   unfolding ticket
   ticket-shaped t = judged-shaped (read t)
-
-  pub ticket-read : (t : List ℤ) → shaped (lent nodes edges faces h) (read_for (routine_of (get_or t 0 (pos 0))) (drop 1 t))
-      ≡ ticket (lent nodes edges faces h) t
-  ticket-read t = ap (shaped (lent nodes edges faces h)) (read-kind t) ∙ sym (ticket-shaped t)

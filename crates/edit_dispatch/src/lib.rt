@@ -1,12 +1,14 @@
 // The fourteen kinds of tickets, chosen by the ticket's first number: a match on it decides argument count and edit.
 #![tactic(auto)]
 
-ghost use Rattle.std.specs.Prelude.{◌≡◌, true, false, ◌-◌, ◌<◌, length, drop};
+ghost use Rattle.std.specs.Prelude.{◌≡◌, true, false, None, Some, ◌-◌, ◌<◌, length, drop};
+ghost use Rattle.std.proofs.Math.Option.{none};
+ghost use Rattle.map.specs.Tickets.{read};
 ghost use Rattle.map.specs.Ticket.{ticket};
 ghost use Rattle.map.specs.Loans.{lent_now};
-ghost use Rattle.outcomes.specs.Outcomes.{Formed, outcome_now};
-ghost use Rattle.edit_dispatch.specs.Shaped.{shaped, shaped_rows, kind, routine_of, kind_for, count_fits, read_for};
-ghost use Rattle.edit_dispatch.specs.Shaped.{edges_named, draws_edge};
+ghost use Rattle.outcomes.specs.Outcomes.{Formed, done_of, outcome_now};
+ghost use Rattle.edit_dispatch.specs.Shaped.{shaped, shaped_rows, kind, kind_sent, kind_for, count_fits, read_for};
+ghost use Rattle.edit_dispatch.specs.Shaped.{Asked, edges_named, draws_edge};
 
 use edit_add::add_edge;
 use edit_curve::change_curve;
@@ -15,8 +17,8 @@ use edit_isolated::{add_isolated_edge, remove_isolated_edge};
 use edit_nodes::{add_node, move_node, remove_node};
 use edit_remove::remove_edge;
 use edit_split::split_edge;
-use map::{Head, Variant};
-use outcomes::Done;
+use map::{Head, Refusal, Variant};
+use outcomes::Carried;
 
 // The edits, each by the function that carries it out.
 #[derive(Clone, Copy)]
@@ -31,7 +33,6 @@ enum Routine {
     Heal(Variant),
     AddEdge(Variant),
     RemoveEdge(Variant),
-    Unknown,
 }
 
 // What a ticket has after its first number: so many arguments, then a curve or nothing; and the edit it asks for.
@@ -56,9 +57,9 @@ fn numbers(arguments: usize, routine: Routine) -> Kind
     ensures { result ≡ kind arguments false routine }
 {
     Kind {
-        arguments: arguments,
+        arguments,
         curve: false,
-        routine: routine,
+        routine,
     }
 }
 
@@ -67,32 +68,32 @@ fn numbers_and_curve(arguments: usize, routine: Routine) -> Kind
     ensures { result ≡ kind arguments true routine }
 {
     Kind {
-        arguments: arguments,
+        arguments,
         curve: true,
-        routine: routine,
+        routine,
     }
 }
 
-// The kind of a first number.
-fn kind_of(z: i64) -> Kind
-    ensures { result ≡ kind_for (routine_of z) }
+// The kind of a first number, where that is one.
+fn kind_of(z: i64) -> Option<Kind>
+    ensures { result ≡ kind_sent z }
 {
     match z {
-        1 => numbers(3, Routine::AddNode),
-        2 => numbers(3, Routine::MoveNode),
-        3 => numbers(1, Routine::RemoveNode),
-        4 => numbers_and_curve(2, Routine::AddIsolatedEdge),
-        5 => numbers(1, Routine::RemoveIsolatedEdge),
-        6 => numbers_and_curve(1, Routine::ChangeCurve),
-        7 => numbers(3, Routine::Split(Variant::New)),
-        8 => numbers(3, Routine::Split(Variant::Mod)),
-        9 => numbers(2, Routine::Heal(Variant::New)),
-        10 => numbers(2, Routine::Heal(Variant::Mod)),
-        11 => numbers_and_curve(2, Routine::AddEdge(Variant::New)),
-        12 => numbers_and_curve(2, Routine::AddEdge(Variant::Mod)),
-        13 => numbers(1, Routine::RemoveEdge(Variant::New)),
-        14 => numbers(1, Routine::RemoveEdge(Variant::Mod)),
-        _ => numbers(0, Routine::Unknown),
+        1 => Some(numbers(3, Routine::AddNode)),
+        2 => Some(numbers(3, Routine::MoveNode)),
+        3 => Some(numbers(1, Routine::RemoveNode)),
+        4 => Some(numbers_and_curve(2, Routine::AddIsolatedEdge)),
+        5 => Some(numbers(1, Routine::RemoveIsolatedEdge)),
+        6 => Some(numbers_and_curve(1, Routine::ChangeCurve)),
+        7 => Some(numbers(3, Routine::Split(Variant::New))),
+        8 => Some(numbers(3, Routine::Split(Variant::Mod))),
+        9 => Some(numbers(2, Routine::Heal(Variant::New))),
+        10 => Some(numbers(2, Routine::Heal(Variant::Mod))),
+        11 => Some(numbers_and_curve(2, Routine::AddEdge(Variant::New))),
+        12 => Some(numbers_and_curve(2, Routine::AddEdge(Variant::Mod))),
+        13 => Some(numbers(1, Routine::RemoveEdge(Variant::New))),
+        14 => Some(numbers(1, Routine::RemoveEdge(Variant::Mod))),
+        _ => None,
     }
 }
 
@@ -107,6 +108,20 @@ fn count_fits(k: Kind, n: usize) -> bool
     }
 }
 
+// The routine that a ticket asks for, where it has the count of numbers of its kind.
+fn read_routine(t: &[i64]) -> Option<Routine>
+    ensures unknown { result ≡ None → read t.now ≡ none }
+    ensures known { (r : _) → result ≡ Some r → Asked r t.now }
+{
+    let z = t.first()?;
+    let k = kind_of(*z)?;
+    if count_fits(k, t.len() - 1) {
+        Some(k.routine)
+    } else {
+        None
+    }
+}
+
 // ---- the edit of rows
 
 // Carries out a routine on numbers of its count, but for the rectangles.
@@ -117,10 +132,10 @@ fn edit_rows(
     h: Head,
     routine: Routine,
     t: &[i64],
-) -> Done
+) -> Result<Carried, Refusal>
     requires { Formed nodes.old edges.old faces.old h
         × (count_fits (kind_for routine) (length t.now - 1) ≡ true) }
-    ensures { outcome_now nodes.new edges.new faces.new result
+    ensures { outcome_now nodes.new edges.new faces.new (done_of h result)
         ≡ shaped_rows (lent_now nodes.old edges.old faces.old h)
         (read_for routine (drop 1 t.now)) }
 {
@@ -150,7 +165,6 @@ fn edit_rows(
             )
         }
         Routine::RemoveEdge(how) => remove_edge(nodes, edges, faces, h, how, t[FIRST]),
-        Routine::Unknown => outcomes::refused(h, 3),
     }
 }
 
@@ -161,17 +175,16 @@ fn edges_named(routine: Routine) -> usize
     ensures { result ≡ edges_named routine }
 {
     match routine {
-        Routine::AddNode => 0,
-        Routine::MoveNode => 0,
-        Routine::RemoveNode => 0,
-        Routine::AddIsolatedEdge => 0,
-        Routine::RemoveIsolatedEdge => 1,
-        Routine::ChangeCurve => 1,
-        Routine::Split(how) => 1,
-        Routine::Heal(how) => 2,
-        Routine::AddEdge(how) => 0,
-        Routine::RemoveEdge(how) => 1,
-        Routine::Unknown => 0,
+        Routine::AddNode
+        | Routine::MoveNode
+        | Routine::RemoveNode
+        | Routine::AddIsolatedEdge
+        | Routine::AddEdge(_) => 0,
+        Routine::RemoveIsolatedEdge
+        | Routine::ChangeCurve
+        | Routine::Split(_)
+        | Routine::RemoveEdge(_) => 1,
+        Routine::Heal(_) => 2,
     }
 }
 
@@ -179,19 +192,7 @@ fn edges_named(routine: Routine) -> usize
 fn draws_edge(routine: Routine) -> bool
     ensures { result ≡ draws_edge routine }
 {
-    match routine {
-        Routine::AddNode => false,
-        Routine::MoveNode => false,
-        Routine::RemoveNode => false,
-        Routine::AddIsolatedEdge => true,
-        Routine::RemoveIsolatedEdge => false,
-        Routine::ChangeCurve => false,
-        Routine::Split(how) => false,
-        Routine::Heal(how) => false,
-        Routine::AddEdge(how) => true,
-        Routine::RemoveEdge(how) => false,
-        Routine::Unknown => false,
-    }
+    matches!(routine, Routine::AddIsolatedEdge | Routine::AddEdge(_))
 }
 
 // Carries out a routine on numbers of its count: the rows, and then the rectangles that it affects.
@@ -202,39 +203,36 @@ fn carry_out(
     h: Head,
     routine: Routine,
     t: &[i64],
-) -> Done
+) -> Result<Carried, Refusal>
     requires { Formed nodes.old edges.old faces.old h
         × (count_fits (kind_for routine) (length t.now - 1) ≡ true) × (0 < length t.now) }
-    ensures { outcome_now nodes.new edges.new faces.new result
+    ensures { outcome_now nodes.new edges.new faces.new (done_of h result)
         ≡ shaped (lent_now nodes.old edges.old faces.old h)
         (read_for routine (drop 1 t.now)) }
 {
     let e = head::to_usize(h.edges);
     let before = edit_rectangles::affected_before(edges, e, edges_named(routine), t);
-    let done = edit_rows(nodes, edges, faces, h, routine, t);
-    let refusal = done.answer.refusal;
-    if refusal != 0 {
-        return done;
-    }
-    let after = done.head;
+    let carried = edit_rows(nodes, edges, faces, h, routine, t)?;
+    let after = carried.head;
     let a = edit_rectangles::affected_after(edges, h, after, draws_edge(routine), before);
     edit_rectangles::set_affected(edges, faces, after, a);
-    done
+    Ok(carried)
 }
 
-// Carries out a ticket on tables in form.
-pub fn edit(nodes: &mut [i64], edges: &mut [i64], faces: &mut [i64], h: Head, t: &[i64]) -> Done
+// Carries out a ticket on tables in form, or answers the first reason against it.
+pub fn edit(
+    nodes: &mut [i64],
+    edges: &mut [i64],
+    faces: &mut [i64],
+    h: Head,
+    t: &[i64],
+) -> Result<Carried, Refusal>
     requires { Formed nodes.old edges.old faces.old h }
-    ensures { outcome_now nodes.new edges.new faces.new result
+    ensures { outcome_now nodes.new edges.new faces.new (done_of h result)
         ≡ ticket (lent_now nodes.old edges.old faces.old h) t.now }
 {
-    if t.len() == 0 {
-        return outcomes::refused(h, 3);
-    }
-    let k = kind_of(t[0]);
-    if !count_fits(k, t.len() - 1) {
-        return outcomes::refused(h, 3);
-    }
-    let routine = k.routine;
+    let Some(routine) = read_routine(t) else {
+        return Err(Refusal::UnknownTicket);
+    };
     carry_out(nodes, edges, faces, h, routine, t)
 }

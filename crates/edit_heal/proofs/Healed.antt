@@ -1,4 +1,5 @@
 -- What is lent after two edges are healed: the tables of the map that the definition gives. Assumes nothing.
+use Rattle.std.specs.Prelude.{Some}
 use mathlib.Core.Path.{◌≡◌, refl, sym, ap, ap₂, ◌∙◌, subst}
 use mathlib.Core.Logic.{inl, inr, ⊎_elim}
 use mathlib.Core.Bool.{true, ◌&&◌, false≢true}
@@ -13,7 +14,6 @@ use lib.ListN.{length, get_or, take, drop, length-append, length-drop, get_or-ma
 use lib.Seq.{length-take-le}
 use Rattle.lists.specs.Scans.{is_some}
 use Rattle.lists.specs.Tables.{place}
-use Rattle.lists.specs.declared.Found.TheVariants.{At}
 use Rattle.lists.specs.Members.{Distinct}
 use Rattle.planar_maps.specs.Map.{Dart, fwd, bwd, rev}
 use Rattle.tables.specs.Tables.{same_z, column, closed, filled}
@@ -278,7 +278,7 @@ module _ {nodes edges faces : List ℤ} {h : Head} (f : Formed nodes edges faces
 
       -- ---- the nodes
 
-      module _ (k : ℕ) (at : place (same_z s.joint) 0 (column node_width nodes (nat_abs h.nodes)) ≡ At k) where
+      module _ (k : ℕ) (at : place (same_z s.joint) 0 (column node_width nodes (nat_abs h.nodes)) ≡ Some k) where
         abbrev node_count : ℕ
         node_count = nat_abs h.nodes
 
@@ -387,7 +387,7 @@ module _ {nodes edges faces : List ℤ} {h : Head} (f : Formed nodes edges faces
         ∙ and_left (has_node whole (edge_at edges i).start) (has_node whole (edge_at edges i).end) ends_named_lem)
         (joint_is (edge_rows_lem f) i j hi hj some-joint)
 
-    pub joint_row : (k : ℕ) × (place (same_z s.joint) 0 (column node_width nodes count) ≡ At k)
+    pub joint_row : (k : ℕ) × (place (same_z s.joint) 0 (column node_width nodes count) ≡ Some k)
     unfolding map_of
     joint_row =
         elim (which_place (place (same_z s.joint) 0 (column node_width nodes count))) [

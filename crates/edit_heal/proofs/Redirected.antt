@@ -7,7 +7,7 @@ use lib.ListN.{length, length-map}
 use Rattle.planar_maps.specs.Map.{Dart}
 use Rattle.planar_maps.specs.Rings.{same_dart}
 use Rattle.map.specs.Limits.{edge_width}
-use Rattle.map.specs.Rows.{Edge, Map, edge_cells, dart_cell, edge}
+use Rattle.map.specs.Rows.{Edge, Map, edge_cells, dart_cell}
 use Rattle.tables.specs.Tables.{filled}
 use Rattle.map.specs.Links.{instead, redirect}
 use Rattle.tables.proofs.Filled.{Wide}

@@ -1,11 +1,10 @@
 -- Two edge rows healed into one, in the numbers of the table; the reasons of a heal in parts, and its numbers.
-use Rattle.std.specs.Prelude.{◌≡◌, true, cond, ◌&&◌, List, [], ◌∷◌, ℕ, ◌+◌, ◌*◌, ◌-◌, ◌/◌, ◌≤◌, ◌<◌, ltb, ℤ, pos, neg_ℤ, nat_abs, length, get_or}
+use Rattle.std.specs.Prelude.{◌≡◌, true, cond, ◌&&◌, List, [], ◌∷◌, ℕ, ◌+◌, ◌*◌, ◌-◌, ◌/◌, ◌≤◌, ◌<◌, ltb, ℤ, pos, neg_ℤ, nat_abs, length, get_or, Some}
 use Rattle.std.proofs.Math.Option
 use Rattle.std.proofs.Math.Seq.{paste}
 use Rattle.std.specs.Int.Signed.{non_neg}
 use Rattle.lists.specs.Scans.{is_some}
 use Rattle.lists.specs.Tables.{place}
-use Rattle.lists.specs.declared.Found.TheVariants.{At}
 use Rattle.tables.specs.Tables.{same_z, column, closed}
 use Rattle.curves.specs.Curves.{Curve, points, max_points}
 use Rattle.curves.specs.Edits.{course, joined}
@@ -24,18 +23,21 @@ use Rattle.map_rows.specs.Cells.{cells_of}
 use Rattle.head.specs.Heads.{Counted, changed_head, spent_at}
 use Rattle.darts.specs.Positions.{odd, reverse_of, dart_at, side_cell}
 use Rattle.links.specs.Linking.{redirected}
-use Rattle.outcomes.specs.declared.Done.{Done}
+use Rattle.outcomes.specs.declared.Carried.{Carried}
 use Rattle.outcomes.specs.Variants.{own_or_next}
 use Rattle.edit_heal.specs.declared.Parts.{Parts}
 
 -- ---- the two directed edges that are joined
 
--- the position of the directed edge of row j that leaves the node, and of the one that arrives there
+-- the position of the directed edge of row j that has the node at its end k, 1 where it leaves and 2 where it arrives
+abbrev pub dart_with : List ℤ → ℕ → ℕ → ℤ → ℕ
+dart_with l j k node = cond (same_z (get_or l (j * edge_width + k) (pos 0)) node) (j * 2) (j * 2 + 1)
+
 abbrev pub dart_leaving : List ℤ → ℕ → ℤ → ℕ
-dart_leaving l j node = cond (same_z (get_or l (j * edge_width + 1) (pos 0)) node) (j * 2) (j * 2 + 1)
+dart_leaving l j node = dart_with l j 1 node
 
 abbrev pub dart_arriving : List ℤ → ℕ → ℤ → ℕ
-dart_arriving l j node = cond (same_z (get_or l (j * edge_width + 2) (pos 0)) node) (j * 2) (j * 2 + 1)
+dart_arriving l j node = dart_with l j 2 node
 
 -- rows i and j of n, with a joint
 pub record JointRows (l : List ℤ) (n i j : ℕ) : Type 0 where
@@ -159,12 +161,12 @@ pub record HealableEdges (nodes edges : List ℤ) (h : Head) (i j : ℕ) (s : Pa
 
 -- they are healed, the joint's row is gone, and so the head and the answer
 pub record HealedTables (nodes edges : List ℤ) (h : Head) (how : Variant) (i j : ℕ) (s : Parts) (line : Line)
-    (nodes' edges' : List ℤ) (d : Done) : Type 0 where
+    (nodes' edges' : List ℤ) (d : Carried) : Type 0 where
   pub edges_after : edges' ≡ healed_rows edges (nat_abs h.edges) i j s.first s.second how
       (pos (own_or_next h how (edge_at edges i).number)) line
-  pub nodes_after : (k : ℕ) → place (same_z s.joint) 0 (column node_width nodes (nat_abs h.nodes)) ≡ At k
+  pub nodes_after : (k : ℕ) → place (same_z s.joint) 0 (column node_width nodes (nat_abs h.nodes)) ≡ Some k
       → nodes' ≡ closed node_width nodes (nat_abs h.nodes) k
   pub answered : d ≡ record {
     head = changed_head h (counts 0 0 0) (counts 1 1 0) (heal_numbers how);
-    answer = record { refusal = 0; value = healed_value h how };
+    value = healed_value h how;
   }

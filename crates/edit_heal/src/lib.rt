@@ -3,29 +3,28 @@
 
 ghost use Rattle.std.specs.Prelude.{◌≡◌, ℕ, ◌+◌, ◌*◌, ◌/◌, ◌≤◌, ◌<◌, pos, nat_abs, length};
 ghost use Rattle.lists.specs.Tables.{place};
-ghost use Rattle.lists.specs.declared.Found.TheVariants.{At};
 ghost use Rattle.tables.specs.Tables.{same_z, column, closed};
 ghost use Rattle.curves.specs.Curves.{points, max_points};
 ghost use Rattle.curve_edits.specs.Lines.{line_of};
 ghost use Rattle.map.specs.Limits.{max_edges, node_width, edge_width};
 ghost use Rattle.map.specs.Rows.{counts};
 ghost use Rattle.map.specs.Reasons.{first_reason};
+ghost use Rattle.map.specs.Refusals.{refusal_of};
 ghost use Rattle.map.specs.Loans.{lent_now};
 ghost use Rattle.map_rows.specs.Rows.{edge_at, EdgeRow, NodeRows};
 ghost use Rattle.map_rows.specs.Cells.{cells_of};
 ghost use Rattle.head.specs.Heads.{Counted, changed_head};
-ghost use Rattle.outcomes.specs.Outcomes.{Formed, edited, outcome_now};
+ghost use Rattle.outcomes.specs.Outcomes.{Formed, edited, done_of, outcome_now};
 ghost use Rattle.outcomes.specs.Variants.{heal_ticket};
-ghost use Rattle.edit_heal.specs.Heals.{dart_leaving, dart_arriving, JointRows, PartsOf, course_at, joined_line};
+ghost use Rattle.edit_heal.specs.Heals.{dart_with, JointRows, PartsOf, course_at, joined_line};
 ghost use Rattle.edit_heal.specs.Heals.{TwoDarts, led_to_healed, RowAndDarts, healed_incidence, closed_up, TwoRows};
 ghost use Rattle.edit_heal.specs.Heals.{healed_written, HealableRows, healed_rows, late_reasons, healed_value};
 ghost use Rattle.edit_heal.specs.Heals.{heal_numbers, HealableEdges, HealedTables};
 
 use curve_edits::Line;
-use lists::Found;
-use map::{Counts, Head, Variant};
+use map::{Counts, Head, Refusal, Variant};
 use map_rows::Incidence;
-use outcomes::Done;
+use outcomes::Carried;
 
 // ---- the two directed edges that are joined
 
@@ -37,24 +36,12 @@ struct Parts {
     joint: i64,
 }
 
-// The position of the directed edge of row j that leaves the node.
-fn dart_leaving(edges: &[i64], j: usize, node: i64) -> usize
-    requires { (j * edge_width + edge_width ≤ length edges.now) × (j ≤ max_edges) }
-    ensures { result ≡ dart_leaving edges.now j node }
+// The position of the directed edge of row j that has the node at its end k: START leaves it, END arrives there.
+fn dart_with(edges: &[i64], j: usize, k: usize, node: i64) -> usize
+    requires { (j * edge_width + edge_width ≤ length edges.now) × (j ≤ max_edges) × (k < edge_width) }
+    ensures { result ≡ dart_with edges.now j k node }
 {
-    if edges[j * map::EDGE_WIDTH + map::START] == node {
-        j * 2
-    } else {
-        j * 2 + 1
-    }
-}
-
-// The position of the directed edge of row j that arrives at the node.
-fn dart_arriving(edges: &[i64], j: usize, node: i64) -> usize
-    requires { (j * edge_width + edge_width ≤ length edges.now) × (j ≤ max_edges) }
-    ensures { result ≡ dart_arriving edges.now j node }
-{
-    if edges[j * map::EDGE_WIDTH + map::END] == node {
+    if edges[j * map::EDGE_WIDTH + k] == node {
         j * 2
     } else {
         j * 2 + 1
@@ -71,12 +58,12 @@ fn parts_of(edges: &[i64], e: usize, i: usize, j: usize) -> Parts
     if reason_departures::joins_at(edges, e, j, v) {
         return Parts {
             first: i * 2,
-            second: dart_leaving(edges, j, v),
+            second: dart_with(edges, j, map::START, v),
             joint: v,
         };
     }
     Parts {
-        first: dart_arriving(edges, j, u),
+        first: dart_with(edges, j, map::END, u),
         second: i * 2,
         joint: u,
     }
@@ -102,11 +89,7 @@ fn joined_line(edges: &[i64], p: usize, q: usize) -> Line
 {
     let a = course_of(edges, p);
     let b = course_of(edges, q);
-    let c = a.cells;
-    let d = b.cells;
-    let m = a.count * 2;
-    let n = b.count * 2;
-    curve_edits::joined_of(&c[0..m], &d[0..n])
+    curve_edits::joined_of(&a.cells[..a.count * 2], &b.cells[..b.count * 2])
 }
 
 // ---- the edge rows
@@ -177,24 +160,23 @@ fn write_healed(
     }
 }
 
-// Rows i and j healed along p and q into the edge `number`, which has the points of l.
+// Rows i and j healed along the parts s into the edge `number`, which has the points of l.
 fn heal_rows(
     edges: &mut [i64],
     e: usize,
     i: usize,
     j: usize,
-    p: usize,
-    q: usize,
+    s: Parts,
     how: Variant,
     number: i64,
     l: Line,
 )
-    requires { HealableRows edges.old e i j p q number l }
-    ensures { edges.new ≡ healed_rows edges.old e i j p q how number l }
+    requires { HealableRows edges.old e i j s.first s.second number l }
+    ensures { edges.new ≡ healed_rows edges.old e i j s.first s.second how number l }
 {
-    lead_to_healed(edges, e, p, q, number);
-    let s = healed_incidence(edges, i, p, q, number);
-    write_healed(edges, e, i, j, how, s, l);
+    lead_to_healed(edges, e, s.first, s.second, number);
+    let healed = healed_incidence(edges, i, s.first, s.second, number);
+    write_healed(edges, e, i, j, how, healed, l);
 }
 
 // ---- nodes and head
@@ -202,13 +184,11 @@ fn heal_rows(
 // The row of the joint goes.
 fn remove_joint(nodes: &mut [i64], n: usize, joint: i64)
     requires { NodeRows nodes.old n }
-    ensures { (k : ℕ) → place (same_z joint) 0 (column node_width nodes.old n) ≡ At k
+    ensures { (k : ℕ) → place (same_z joint) 0 (column node_width nodes.old n) ≡ Some k
         → nodes.new ≡ closed node_width nodes.old n k }
 {
-    let found = tables::find_row(nodes, map::NODE_WIDTH, n, joint);
-    match found {
-        Found::At(k) => tables::remove_row(nodes, map::NODE_WIDTH, n, k),
-        Found::Missing => {}
+    if let Some(k) = tables::find_row(nodes, map::NODE_WIDTH, n, joint) {
+        tables::remove_row(nodes, map::NODE_WIDTH, n, k);
     }
 }
 
@@ -216,9 +196,8 @@ fn remove_joint(nodes: &mut [i64], n: usize, joint: i64)
 fn healed_value(h: Head, how: Variant) -> i64
     ensures { result ≡ healed_value h how }
 {
-    let next = h.next_edge;
     match how {
-        Variant::New => next,
+        Variant::New => h.next_edge,
         Variant::Mod => 0,
     }
 }
@@ -243,18 +222,18 @@ fn after_heal(h: Head, how: Variant) -> Head
 
 // ---- the heal
 
-// 18 or 21; 0 for none.
-fn late_reason(count: usize, h: Head, how: Variant) -> u64
+// Whether the healed curve has too many points, or no number is left for the edge.
+fn check_late(count: usize, h: Head, how: Variant) -> Result<(), Refusal>
     requires { Counted h }
-    ensures { result ≡ first_reason (late_reasons count h how) }
+    ensures { refusal_of result ≡ first_reason (late_reasons count h how) }
 {
     if head::most_points(h) < count {
-        return 18;
+        return Err(Refusal::TooManyPoints);
     }
-    match how {
-        Variant::Mod => 0,
-        Variant::New => if head::is_spent(h, head::EDGE) { 21 } else { 0 },
+    if how == Variant::New && head::is_spent(h, head::EDGE) {
+        return Err(Refusal::NumbersSpent);
     }
+    Ok(())
 }
 
 // Rows i and j healed along the parts s, and the joint gone.
@@ -267,26 +246,18 @@ fn carry_out(
     j: usize,
     s: Parts,
     l: Line,
-) -> Done
+) -> Carried
     requires { HealableEdges nodes.old edges.old h i j s l }
     ensures { HealedTables nodes.old edges.old h how i j s l nodes.new
         edges.new result }
 {
     let number = outcomes::own_or_next(edges, h, how, i);
-    heal_rows(
-        edges,
-        head::to_usize(h.edges),
-        i,
-        j,
-        s.first,
-        s.second,
-        how,
-        number,
-        l,
-    );
-    let joint = s.joint;
-    remove_joint(nodes, head::to_usize(h.nodes), joint);
-    outcomes::carried(after_heal(h, how), healed_value(h, how))
+    heal_rows(edges, head::to_usize(h.edges), i, j, s, how, number, l);
+    remove_joint(nodes, head::to_usize(h.nodes), s.joint);
+    Carried {
+        head: after_heal(h, how),
+        value: healed_value(h, how),
+    }
 }
 
 // Kinds 9 and 10 on the edges of rows i and j.
@@ -298,24 +269,18 @@ fn heal_at_rows(
     how: Variant,
     i: usize,
     j: usize,
-) -> Done
+) -> Result<Carried, Refusal>
     requires { Formed nodes.old edges.old faces.now h × (i < nat_abs h.edges) × (j < nat_abs h.edges) }
-    ensures { outcome_now nodes.new edges.new faces.now result
+    ensures { outcome_now nodes.new edges.new faces.now (done_of h result)
         ≡ edited (lent_now nodes.old edges.old faces.now h)
         (heal_ticket how (pos (edge_at edges.old i).number) (pos (edge_at edges.old j).number)) }
 {
     let e = head::to_usize(h.edges);
-    let early = reason_departures::joint_reason(edges, e, i, j);
-    if early != 0 {
-        return outcomes::refused(h, early);
-    }
+    reason_departures::check_joint(edges, e, i, j)?;
     let s = parts_of(edges, e, i, j);
     let l = joined_line(edges, s.first, s.second);
-    let late = late_reason(l.count, h, how);
-    if late != 0 {
-        return outcomes::refused(h, late);
-    }
-    carry_out(nodes, edges, h, how, i, j, s, l)
+    check_late(l.count, h, how)?;
+    Ok(carry_out(nodes, edges, h, how, i, j, s, l))
 }
 
 // Joins two edges into one at a node where no other edge ends, or answers the first reason against it.
@@ -327,20 +292,18 @@ pub fn heal_edges(
     how: Variant,
     edge: i64,
     other: i64,
-) -> Done
+) -> Result<Carried, Refusal>
     requires { Formed nodes.old edges.old faces.now h }
-    ensures { outcome_now nodes.new edges.new faces.now result
+    ensures { outcome_now nodes.new edges.new faces.now (done_of h result)
         ≡ edited (lent_now nodes.old edges.old faces.now h)
         (heal_ticket how edge other) }
 {
     let e = head::to_usize(h.edges);
-    let found = tables::find_row(edges, map::EDGE_WIDTH, e, edge);
-    let Found::At(i) = found else {
-        return outcomes::refused(h, 4);
+    let Some(i) = tables::find_row(edges, map::EDGE_WIDTH, e, edge) else {
+        return Err(Refusal::NoSuchRow);
     };
-    let found_other = tables::find_row(edges, map::EDGE_WIDTH, e, other);
-    let Found::At(j) = found_other else {
-        return outcomes::refused(h, 4);
+    let Some(j) = tables::find_row(edges, map::EDGE_WIDTH, e, other) else {
+        return Err(Refusal::NoSuchRow);
     };
     heal_at_rows(nodes, edges, faces, h, how, i, j)
 }

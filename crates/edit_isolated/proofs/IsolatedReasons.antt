@@ -1,5 +1,5 @@
 -- The first reason of kind 4, test by test. Assumes nothing.
-use mathlib.Core.Path.{◌≡◌, refl, sym, ◌∙◌}
+use mathlib.Core.Path.{◌≡◌, refl, sym, ap₂, ◌∙◌}
 use mathlib.Core.Bool.{Bool, true, false, not, ◌&&◌, ◌||◌}
 use mathlib.Core.List.{List, ◌∷◌}
 use mathlib.Core.Option.{get_or}
@@ -18,8 +18,7 @@ use Rattle.map_rows.specs.Rows.{node_at, node_map}
 use Rattle.head.specs.Heads.{sizes_in, room_at}
 use Rattle.head.proofs.Heads.{room_left}
 use Rattle.reason_curves.specs.Sent.{curve_reasons_at, edges_but}
-use Rattle.map.proofs.Reasons.{first_hit, first_miss, first_after, first_zero}
-use Rattle.edge_rows.proofs.FirstReasons.{first_of}
+use Rattle.map.proofs.Reasons.{first_hit, first_miss, first_append, first_after, first_zero}
 use Rattle.edit_isolated.specs.Isolated.{meeting_or_room_reasons, isolated_reasons}
 
 -- from 14 on
@@ -31,11 +30,19 @@ module _ (nodes edges faces : List ℤ) (h : Head) (c : List ℤ) where
   abbrev room : Reasons
   room = room_at (sizes_in nodes edges faces) h (counts 0 1 0) (counts 0 1 0)
 
-  pub late_meeting : {r : ℕ} → r ≡ first_reason
+  -- the reasons of the curve, with the counts as they were read
+  pub meeting_told : {r n k : ℕ} → r ≡ first_reason (meeting_reasons (node_map nodes n) (edges_but edges k k) (curve_of c))
+      → n ≡ nat_abs h.nodes → k ≡ nat_abs h.edges → r ≡ first_reason
       (meeting_reasons (node_map nodes (nat_abs h.nodes))
-      (edges_but edges (nat_abs h.edges) (nat_abs h.edges)) (curve_of c)) → (r ≡ 0 → ⊥) → r
+      (edges_but edges (nat_abs h.edges) (nat_abs h.edges)) (curve_of c))
+  meeting_told e en ek = e ∙ ap₂ (λ (n k : ℕ). first_reason
+      (meeting_reasons (node_map nodes n) (edges_but edges k k) (curve_of c))) en ek
+
+  pub late_meeting : {r : ℕ} → 0 < r → r ≡ first_reason
+      (meeting_reasons (node_map nodes (nat_abs h.nodes))
+      (edges_but edges (nat_abs h.edges) (nat_abs h.edges)) (curve_of c)) → r
       ≡ first_reason (meeting_or_room_reasons nodes edges faces h c)
-  late_meeting {r} m g = first_of meeting room r m g
+  late_meeting {r} some m = sym (first_append meeting room r some (sym m))
 
   pub late_room : {r : ℕ} → first_reason
       (meeting_reasons (node_map nodes (nat_abs h.nodes))
@@ -68,8 +75,8 @@ module _ (nodes edges faces : List ℤ) (h : Head) (u v : ℕ) (c : List ℤ) wh
       go false false y e = let z : ◌≡◌ {A = ℕ} 0 1 = cc in absurd (omega arith)
 
   pub isolated_ends : {r : ℕ} → r ≡ first_reason (curve_reasons_at (curve_of c) (node_at nodes u).at (node_at nodes v).at)
-      → (r ≡ 0 → ⊥) → r ≡ first_reason (isolated_reasons nodes edges faces h u v c)
-  isolated_ends {r} e d = first_of ends ((9, joined) ∷ (12, apart) ∷ late) r e d
+      → 0 < r → r ≡ first_reason (isolated_reasons nodes edges faces h u v c)
+  isolated_ends {r} e some = sym (first_append ends ((9, joined) ∷ (12, apart) ∷ late) r some (sym e))
 
   module _ (e : first_reason (curve_reasons_at (curve_of c) (node_at nodes u).at (node_at nodes v).at) ≡ 0) where
     after_ends : first_reason (isolated_reasons nodes edges faces h u v c)

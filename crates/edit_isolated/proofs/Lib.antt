@@ -1,6 +1,4 @@
--- `FaceTests`: containing faces compared. `IsolatedReasons`, `Added`: what kind 4 answers. `Removed`: what kind 5
--- answers.
-pub mod FaceTests
+-- `IsolatedReasons`, `Added`: what kind 4 answers. `Removed`: what kind 5 answers.
 pub mod IsolatedReasons
 pub mod Added
 pub mod Removed

@@ -1,4 +1,5 @@
 -- What kind 5 answers: the reasons against it, and the tables it leaves. Assumes nothing.
+use Rattle.std.specs.Prelude.{None}
 use mathlib.Core.Path.{◌≡◌, refl, sym, ap, ◌∙◌}
 use mathlib.Core.Bool.{Bool, true, false, not}
 use mathlib.Core.List.{List, [], flat_map}
@@ -6,7 +7,6 @@ use Prim.Native.Nat.{ℕ, ◌*◌, ◌/◌, ◌<◌}
 use lib.IntN.{ℤ, pos, nat_abs}
 use lib.ListN.{length}
 use Rattle.lists.specs.Tables.{place}
-use Rattle.lists.specs.declared.Found.TheVariants.{Missing}
 use Rattle.map.specs.declared.Head.{Head}
 use Rattle.map.specs.Limits.{edge_width, face_width}
 use Rattle.map.specs.Rows.{Edge, Map, Sizes, map_of, lent_with, rectangle, sizes_of, node_cells, edge_cells, at_nodes, lent}
@@ -33,7 +33,7 @@ module _ {nodes edges faces : List ℤ} {h : Head} (f : Formed nodes edges faces
   s = sizes_of (lent nodes edges faces h)
 
   -- a row that is missing is reason 4
-  pub remove_missing : (z : ℤ) → place (same_z z) 0 (column edge_width edges (nat_abs h.edges)) ≡ Missing
+  pub remove_missing : (z : ℤ) → place (same_z z) 0 (column edge_width edges (nat_abs h.edges)) ≡ None
       → first_reason (reasons s m (RemoveIsoEdge z)) ≡ 4
   unfolding reasons
   remove_missing z e = first_hit 4 (no_edge m z) _ (edge_none f z e)

@@ -1,4 +1,5 @@
 -- Faces that are given or not, and the rows of faces. Assumes nothing.
+use Rattle.std.specs.Prelude.{None}
 use mathlib.Core.Path.{◌≡◌, refl, sym, ap, ◌∙◌}
 use mathlib.Core.Bool.{Bool, true, false, not, ◌&&◌, ◌||◌, false≢true}
 use mathlib.Core.Logic.{inl, inr}
@@ -9,7 +10,6 @@ use lib.Signed.{non_neg}
 use Rattle.lists.specs.Tests.{same}
 use Rattle.lists.specs.Scans.{any_of, all_of}
 use Rattle.lists.specs.Tables.{place}
-use Rattle.lists.specs.declared.Found.TheVariants.{Missing}
 use Rattle.lists.proofs.Bools.{which, same_true, differ}
 use Rattle.map.specs.Limits.{face_width}
 use Rattle.tables.specs.Tables.{same_z, column, rows}
@@ -41,6 +41,6 @@ other_is (negsuc a) b h k = go (same a 0) refl
 
 -- a face that was not found
 pub face_none : (l : List ℤ) (n : ℕ) → all_of face_ranges (rows face_width n l) ≡ true → (z : ℤ)
-    → place (same_z z) 0 (column face_width l n) ≡ Missing → non_neg z && any_of (same (nat_abs z)) (faces_of l n) ≡ false
+    → place (same_z z) 0 (column face_width l n) ≡ None → non_neg z && any_of (same (nat_abs z)) (faces_of l n) ≡ false
 face_none l n ranges (pos m) e = face_missing l n ranges m e
 face_none l n ranges (negsuc m) e = refl

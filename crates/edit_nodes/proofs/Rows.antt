@@ -1,4 +1,5 @@
 -- The first reason of kinds 2 and 3, by rows of the tables. Assumes nothing.
+use Rattle.std.specs.Prelude.{None}
 use mathlib.Core.Path.{◌≡◌, sym, ap, ap₂, ◌∙◌}
 use mathlib.Core.Bool.{Bool, true, false, not, ◌&&◌, ◌||◌}
 use mathlib.Core.List.{List, [], ◌∷◌}
@@ -8,7 +9,6 @@ use lib.IntN.{ℤ, pos, nat_abs}
 use borrow.Author.Tests.{not-false}
 use Rattle.lists.specs.Scans.{is_some}
 use Rattle.lists.specs.Tables.{place}
-use Rattle.lists.specs.declared.Found.TheVariants.{Missing}
 use Rattle.curves.specs.Curves.{point, coordinate}
 use Rattle.map.specs.declared.Head.{Head}
 use Rattle.map.specs.Limits.{node_width}
@@ -32,7 +32,7 @@ module _ {nodes edges faces : List ℤ} {h : Head} (f : Formed nodes edges faces
   s = sizes_of (lent nodes edges faces h)
 
   -- a row that is missing is reason 4
-  module _ (z : ℤ) (e : place (same_z z) 0 (column node_width nodes (nat_abs h.nodes)) ≡ Missing) where
+  module _ (z : ℤ) (e : place (same_z z) 0 (column node_width nodes (nat_abs h.nodes)) ≡ None) where
     pub move_missing : (x y : ℤ) → first_reason (reasons s m (MoveIsoNode z x y)) ≡ 4
     unfolding reasons
     move_missing x y = first_hit 4 _ _ (node_none f z e)

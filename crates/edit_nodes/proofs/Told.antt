@@ -1,15 +1,19 @@
 -- What the tests of kinds 1 to 3 answered, in the map's terms, and the first reason from its parts. Assumes nothing.
-use mathlib.Core.Path.{◌≡◌, refl, sym, ap, ◌∙◌}
+use Rattle.std.specs.Prelude.{Some, None}
+use mathlib.Core.Path.{◌≡◌, refl, sym, ap, ap₂, ◌∙◌}
 use mathlib.Core.Bool.{Bool, true, false, not, ◌&&◌, ◌||◌, true≢false}
 use mathlib.Core.List.{List, ◌++◌}
 use Prim.Native.Nat.{ℕ, ◌≤◌, ◌<◌}
 use lib.Dec.{lit<}
 use lib.IntN.{ℤ, pos, nat_abs}
-use lib.Signed.{non_neg}
+use lib.Signed.{non_neg, mag}
+use mir.Syntax.{w64}
+use mir.Val.{of_z, to_z, SFits}
+use mir.Facts.{to_z-of_z}
 use borrow.Author.Tests.{not-false}
+use Rattle.integers.specs.Signs.{sent}
 use Rattle.lists.specs.Tests.{same}
 use Rattle.lists.specs.Tables.{place}
-use Rattle.lists.specs.declared.Found.TheVariants.{At, Missing}
 use Rattle.lists.proofs.Bools.{&&-false}
 use Rattle.tables.specs.Tables.{same_z, column}
 use Rattle.plane.specs.declared.Point.{Point}
@@ -27,7 +31,7 @@ use Rattle.head.specs.Heads.{sizes_in, room_at}
 use Rattle.outcomes.specs.Outcomes.{Formed}
 use Rattle.outcomes.proofs.Formed.{room_at_lem, face_rows_lem}
 use Rattle.reason_curves.proofs.Others.{node_at_all}
-use Rattle.edit_nodes.specs.Parts.{point_taken, point_reasons, add_early, add_late}
+use Rattle.edit_nodes.specs.Parts.{point_taken, point_reasons, add_early, add_late, move_reasons}
 use Rattle.edit_nodes.proofs.Faces.{face_none}
 
 -- a face that is not missing is none or a number
@@ -37,24 +41,50 @@ given_face false true c e = refl
 given_face false false c e = absurd (true≢false e)
 
 -- the coordinates that were looked at
-pub range_told : {x y u v : ℤ} {r t : Bool} → u ≡ x → v ≡ y → r ≡ coordinate u && coordinate v → not r ≡ t
-    → outside x y ≡ t
-range_told eu ev er et = rw (← eu, ← ev, ← er) et
+pub range_told : {x y : ℤ} {r t : Bool} → SFits w64 x → SFits w64 y
+    → r ≡ coordinate (to_z w64 (of_z w64 x)) && coordinate (to_z w64 (of_z w64 y)) → r ≡ t → outside x y ≡ not t
+range_told fx fy er et = rw (← to_z-of_z {w = w64} fx, ← to_z-of_z {w = w64} fy, ← er) (ap not et)
+
+-- the point of coordinates that were passed
+pub point_passed : {x y : ℤ} {p : Point} → SFits w64 x → SFits w64 y
+    → p ≡ point (to_z w64 (of_z w64 x)) (to_z w64 (of_z w64 y)) → p ≡ point x y
+point_passed fx fy e = e ∙ ap₂ point (to_z-of_z {w = w64} fx) (to_z-of_z {w = w64} fy)
 
 -- the reasons of the point, of numbers as they were passed
-pub point_told : (m : Map) {x y u v : ℤ} {r : ℕ} → u ≡ x → v ≡ y → r ≡ first_reason (point_reasons m u v)
+pub point_told : (m : Map) {x y : ℤ} {r : ℕ} → SFits w64 x → SFits w64 y
+    → r ≡ first_reason (point_reasons m (to_z w64 (of_z w64 x)) (to_z w64 (of_z w64 y)))
     → r ≡ first_reason (point_reasons m x y)
-point_told m eu ev e = e ∙ (λ i. first_reason (point_reasons m (eu i) (ev i)))
+point_told m fx fy e =
+    let x = to_z-of_z {w = w64} fx in
+    let y = to_z-of_z {w = w64} fy in
+    e ∙ (λ i. first_reason (point_reasons m (x i) (y i)))
 
--- the first reasons of kind 1, of numbers as they were passed
-pub early_told : (m : Map) {face x y u v w : ℤ} {r : ℕ} → u ≡ face → v ≡ x → w ≡ y → r ≡ first_reason (add_early m u v w)
+-- the first reasons of kind 1
+pub early_told : (m : Map) {face x y : ℤ} {r : ℕ} → SFits w64 face → SFits w64 x → SFits w64 y
+    → r ≡ first_reason (add_early m (to_z w64 (of_z w64 face)) (to_z w64 (of_z w64 x)) (to_z w64 (of_z w64 y)))
     → r ≡ first_reason (add_early m face x y)
-early_told m eu ev ew e = e ∙ (λ i. first_reason (add_early m (eu i) (ev i) (ew i)))
+early_told m ff fx fy e =
+    let face = to_z-of_z {w = w64} ff in
+    let x = to_z-of_z {w = w64} fx in
+    let y = to_z-of_z {w = w64} fy in
+    e ∙ (λ i. first_reason (add_early m (face i) (x i) (y i)))
+
+-- those of kind 2
+pub move_told : (nodes edges : List ℤ) (h : Head) (i : ℕ) {x y : ℤ} {r : ℕ} → SFits w64 x → SFits w64 y
+    → r ≡ first_reason (move_reasons nodes edges h i (to_z w64 (of_z w64 x)) (to_z w64 (of_z w64 y)))
+    → first_reason (move_reasons nodes edges h i x y) ≡ r
+move_told nodes edges h i fx fy e =
+    let x = to_z-of_z {w = w64} fx in
+    let y = to_z-of_z {w = w64} fy in
+    sym (e ∙ (λ j. first_reason (move_reasons nodes edges h i (x j) (y j))))
 
 -- the face around the point was compared
-pub other_told : {face u w : ℤ} (k : ℕ) {r v : Bool} → u ≡ face → w ≡ pos k → r ≡ not (minus_one u)
-    && not (same (nat_abs u) (nat_abs w)) → r ≡ v → not (minus_one face) && not (same (nat_abs face) k) ≡ v
-other_told k eu ew er ev = sym (λ i. not (minus_one (eu i)) && not (same (nat_abs (eu i)) (nat_abs (ew i)))) ∙ sym er ∙ ev
+pub other_told : {face : ℤ} (w : ℤ) (k : ℕ) {r v : Bool} → SFits w64 face → to_z w64 (of_z w64 w) ≡ pos k
+    → r ≡ not (minus_one (to_z w64 (of_z w64 face))) && not (same (nat_abs (to_z w64 (of_z w64 face)))
+    (nat_abs (to_z w64 (of_z w64 w)))) → r ≡ v → not (minus_one face) && not (same (nat_abs face) k) ≡ v
+other_told w k ff ew er ev =
+    let face = to_z-of_z {w = w64} ff in
+    sym (λ i. not (minus_one (face i)) && not (same (nat_abs (face i)) (nat_abs (ew i)))) ∙ sym er ∙ ev
 
 module _ {nodes edges faces : List ℤ} {h : Head} (f : Formed nodes edges faces h) where
   abbrev m : Map
@@ -72,10 +102,12 @@ module _ {nodes edges faces : List ℤ} {h : Head} (f : Formed nodes edges faces
       (sym (node_at_all nodes n own p past)) ∙ sym er ∙ ev)
 
   -- the face around a point
-  pub around_told : (k : ℕ) (p q : Point) → k ≡ nat_abs h.edges → p ≡ q → face_of_point (edge_map edges k) p
-      ≡ face_of_point m q
+  pub around_told : {x y a : ℤ} (k : ℕ) (p : Point) → SFits w64 x → SFits w64 y → mag a < 9223372036854775808
+      → a ≡ pos (face_of_point (edge_map edges k) p) → k ≡ nat_abs h.edges
+      → p ≡ point (to_z w64 (of_z w64 x)) (to_z w64 (of_z w64 y))
+      → to_z w64 (of_z w64 a) ≡ pos (face_of_point m (point x y))
   unfolding map_of face_of_point floors
-  around_told k p q ek ep = rw (ek, ep)
+  around_told k p fx fy ea e ek ep = sent ea ∙ e ∙ rw (ek, point_passed fx fy ep)
 
   -- ---- kind 1
 
@@ -84,14 +116,14 @@ module _ {nodes edges faces : List ℤ} {h : Head} (f : Formed nodes edges faces
     pub face_not_given : minus_one face ≡ true → first_reason (point_reasons m x y) ≡ first_reason (add_early m face x y)
     face_not_given e = sym (first_miss 4 _ _ (rw e))
 
-    pub face_there : {i : ℕ} → place (same_z face) 0 (column face_width faces (nat_abs h.faces)) ≡ At i
+    pub face_there : {i : ℕ} → place (same_z face) 0 (column face_width faces (nat_abs h.faces)) ≡ Some i
         → first_reason (point_reasons m x y) ≡ first_reason (add_early m face x y)
     unfolding map_of
     face_there e =
         let r = face_found faces (nat_abs h.faces) (face_rows_lem f).ranges face _ e in
         sym (first_miss 4 _ _ (rw (ap non_neg r.1, r.2) (&&-false (not (minus_one face)))))
 
-    pub face_missing : place (same_z face) 0 (column face_width faces (nat_abs h.faces)) ≡ Missing
+    pub face_missing : place (same_z face) 0 (column face_width faces (nat_abs h.faces)) ≡ None
         → minus_one face ≡ false → 4 ≡ first_reason (add_early m face x y)
     unfolding map_of
     face_missing e given =

@@ -11,15 +11,15 @@ ghost use Rattle.map.specs.Limits.{node_width};
 ghost use Rattle.map.specs.Rows.{map_of, counts};
 ghost use Rattle.map.specs.Tickets.{AddIsoNode, MoveIsoNode, RemoveIsoNode};
 ghost use Rattle.map.specs.Reasons.{first_reason, minus_one};
+ghost use Rattle.map.specs.Refusals.{refusal_of};
 ghost use Rattle.map.specs.Loans.{lent_now};
 ghost use Rattle.map_rows.specs.Rows.{FaceRows, NodeRows, EdgeRows, faces_of, node_at};
 ghost use Rattle.head.specs.Heads.{Counted, changed_head};
-ghost use Rattle.outcomes.specs.Outcomes.{Formed, decided, outcome_now};
+ghost use Rattle.outcomes.specs.Outcomes.{Formed, decided, done_of, outcome_now};
 ghost use Rattle.edit_nodes.specs.Parts.{point_taken, point_reasons, add_early, move_reasons};
 
-use lists::Found;
-use map::Head;
-use outcomes::Done;
+use map::{Head, Refusal};
+use outcomes::Carried;
 use plane::Point;
 
 // ---- leaves
@@ -51,22 +51,26 @@ fn point_is_taken(
     requires { NodeRows nodes.now n × EdgeRows edges.now count × InRange p }
     ensures { result ≡ point_taken nodes.now n edges.now count own p }
 {
-    if reason_curves::node_at(nodes, n, own, p) {
-        return true;
-    }
-    reason_curves::edge_through(edges, count, p)
+    reason_curves::node_at(nodes, n, own, p) || reason_curves::edge_through(edges, count, p)
 }
 
 // ---- reasons
 
-// Kind 1, of its point: 5 or 10; 0 for none.
-fn point_reason(nodes: &[i64], edges: &[i64], faces: &[i64], h: Head, x: i64, y: i64) -> u64
+// Kind 1, of its point: 5 and 10.
+fn check_point(
+    nodes: &[i64],
+    edges: &[i64],
+    faces: &[i64],
+    h: Head,
+    x: i64,
+    y: i64,
+) -> Result<(), Refusal>
     requires { Formed nodes.now edges.now faces.now h }
-    ensures { result ≡ first_reason (point_reasons
+    ensures { refusal_of result ≡ first_reason (point_reasons
         (map_of (lent_now nodes.now edges.now faces.now h)) x y) }
 {
     if !reason_curves::in_range(x, y) {
-        return 5;
+        return Err(Refusal::OutOfRange);
     }
     let n = head::to_usize(h.nodes);
     if point_is_taken(
@@ -77,14 +81,13 @@ fn point_reason(nodes: &[i64], edges: &[i64], faces: &[i64], h: Head, x: i64, y:
         n,
         reason_curves::point_of(x, y),
     ) {
-        10
-    } else {
-        0
+        return Err(Refusal::PointTaken);
     }
+    Ok(())
 }
 
-// Kind 1: 4, 5 or 10; 0 for none.
-fn add_reason(
+// Kind 1: 4, 5 and 10.
+fn check_add(
     nodes: &[i64],
     edges: &[i64],
     faces: &[i64],
@@ -92,24 +95,21 @@ fn add_reason(
     face: i64,
     x: i64,
     y: i64,
-) -> u64
+) -> Result<(), Refusal>
     requires { Formed nodes.now edges.now faces.now h }
-    ensures { result ≡ first_reason (add_early
+    ensures { refusal_of result ≡ first_reason (add_early
         (map_of (lent_now nodes.now edges.now faces.now h)) face x y) }
 {
     if is_none(face) {
-        return point_reason(nodes, edges, faces, h, x, y);
+        return check_point(nodes, edges, faces, h, x, y);
     }
     let n = head::to_usize(h.faces);
-    let found = tables::find_row(faces, map::FACE_WIDTH, n, face);
-    let Found::At(_) = found else {
-        return 4;
-    };
-    point_reason(nodes, edges, faces, h, x, y)
+    tables::find_row(faces, map::FACE_WIDTH, n, face).ok_or(Refusal::NoSuchRow)?;
+    check_point(nodes, edges, faces, h, x, y)
 }
 
-// Kind 2, of node row i: 5, 9 or 10; 0 for none.
-fn move_reason(
+// Kind 2, of node row i: 5, 9 and 10.
+fn check_move(
     nodes: &[i64],
     edges: &[i64],
     faces: &[i64],
@@ -117,15 +117,15 @@ fn move_reason(
     i: usize,
     x: i64,
     y: i64,
-) -> u64
+) -> Result<(), Refusal>
     requires { Formed nodes.now edges.now faces.now h × (i < nat_abs h.nodes) }
-    ensures { result ≡ first_reason (move_reasons nodes.now edges.now h i x y) }
+    ensures { refusal_of result ≡ first_reason (move_reasons nodes.now edges.now h i x y) }
 {
     if !reason_curves::in_range(x, y) {
-        return 5;
+        return Err(Refusal::OutOfRange);
     }
     if !map_rows::is_isolated(nodes, i) {
-        return 9;
+        return Err(Refusal::NotIsolated);
     }
     if point_is_taken(
         nodes,
@@ -135,27 +135,29 @@ fn move_reason(
         i,
         reason_curves::point_of(x, y),
     ) {
-        10
-    } else {
-        0
+        return Err(Refusal::PointTaken);
     }
+    Ok(())
 }
 
 // ---- kinds 1 to 3
 
 // A node more: the row after the last, and the head.
-fn push_node(nodes: &mut [i64], h: Head, x: i64, y: i64, around: i64) -> Done
+fn push_node(nodes: &mut [i64], h: Head, x: i64, y: i64, around: i64) -> Carried
     requires { Counted h × (nat_abs h.nodes * node_width + node_width ≤ length nodes.old) }
     ensures { (nodes.new ≡ paste nodes.old (nat_abs h.nodes * node_width)
         (h.next_node ∷ x ∷ y ∷ around ∷ []) node_width)
         × (result ≡ record {
           head = changed_head h (counts 1 0 0) (counts 0 0 0) (counts 1 0 0);
-          answer = record { refusal = 0; value = h.next_node };
+          value = h.next_node;
         }) }
 {
     let number = h.next_node;
     map_rows::write_node(nodes, head::to_usize(h.nodes), number, x, y, around);
-    outcomes::carried(head::changed(h, head::NODE, head::NONE, head::NODE), number)
+    Carried {
+        head: head::changed(h, head::NODE, head::NONE, head::NODE),
+        value: number,
+    }
 }
 
 // Adds an isolated node in the face around its point, or answers the first reason against it.
@@ -167,33 +169,23 @@ pub fn add_node(
     face: i64,
     x: i64,
     y: i64,
-) -> Done
+) -> Result<Carried, Refusal>
     requires { Formed nodes.old edges.now faces.now h }
-    ensures { outcome_now nodes.new edges.now faces.now result
+    ensures { outcome_now nodes.new edges.now faces.now (done_of h result)
         ≡ decided (lent_now nodes.old edges.now faces.now h) (AddIsoNode face x y) }
 {
-    let early = add_reason(nodes, edges, faces, h, face, x, y);
-    if early != 0 {
-        return outcomes::refused(h, early);
-    }
+    check_add(nodes, edges, faces, h, face, x, y)?;
     let around = point_location::face_of_point(
         edges,
         head::to_usize(h.edges),
         reason_curves::point_of(x, y),
     );
     if other_face(face, around) {
-        return outcomes::refused(h, 12);
+        return Err(Refusal::FacesDiffer);
     }
-    let late = head::room_reason(
-        head::sizes_of(nodes, edges, faces),
-        h,
-        head::NODE,
-        head::NODE,
-    );
-    if late != 0 {
-        return outcomes::refused(h, late);
-    }
-    push_node(nodes, h, x, y, around)
+    let sizes = head::sizes_of(nodes, edges, faces);
+    head::check_room(sizes, h, head::NODE, head::NODE)?;
+    Ok(push_node(nodes, h, x, y, around))
 }
 
 // Kind 2 on the node of row i.
@@ -205,16 +197,13 @@ fn move_at_row(
     i: usize,
     x: i64,
     y: i64,
-) -> Done
+) -> Result<Carried, Refusal>
     requires { Formed nodes.old edges.now faces.now h × (i < nat_abs h.nodes) }
-    ensures { outcome_now nodes.new edges.now faces.now result
+    ensures { outcome_now nodes.new edges.now faces.now (done_of h result)
         ≡ decided (lent_now nodes.old edges.now faces.now h)
         (MoveIsoNode (pos (node_at nodes.old i).number) x y) }
 {
-    let reason = move_reason(nodes, edges, faces, h, i, x, y);
-    if reason != 0 {
-        return outcomes::refused(h, reason);
-    }
+    check_move(nodes, edges, faces, h, i, x, y)?;
     let number = nodes[i * map::NODE_WIDTH];
     let around = point_location::face_of_point(
         edges,
@@ -222,7 +211,7 @@ fn move_at_row(
         reason_curves::point_of(x, y),
     );
     map_rows::write_node(nodes, i, number, x, y, around);
-    outcomes::carried(h, 0)
+    Ok(Carried { head: h, value: 0 })
 }
 
 // Moves an isolated node into the face around its new point, or answers the first reason against it.
@@ -234,43 +223,56 @@ pub fn move_node(
     node: i64,
     x: i64,
     y: i64,
-) -> Done
+) -> Result<Carried, Refusal>
     requires { Formed nodes.old edges.now faces.now h }
-    ensures { outcome_now nodes.new edges.now faces.now result
+    ensures { outcome_now nodes.new edges.now faces.now (done_of h result)
         ≡ decided (lent_now nodes.old edges.now faces.now h) (MoveIsoNode node x y) }
 {
     let n = head::to_usize(h.nodes);
-    let found = tables::find_row(nodes, map::NODE_WIDTH, n, node);
-    let Found::At(i) = found else {
-        return outcomes::refused(h, 4);
+    let Some(i) = tables::find_row(nodes, map::NODE_WIDTH, n, node) else {
+        return Err(Refusal::NoSuchRow);
     };
     move_at_row(nodes, edges, faces, h, i, x, y)
 }
 
 // Kind 3 on the node of row i.
-fn remove_at_row(nodes: &mut [i64], edges: &[i64], faces: &[i64], h: Head, i: usize) -> Done
+fn remove_at_row(
+    nodes: &mut [i64],
+    edges: &[i64],
+    faces: &[i64],
+    h: Head,
+    i: usize,
+) -> Result<Carried, Refusal>
     requires { Formed nodes.old edges.now faces.now h × (i < nat_abs h.nodes) }
-    ensures { outcome_now nodes.new edges.now faces.now result
+    ensures { outcome_now nodes.new edges.now faces.now (done_of h result)
         ≡ decided (lent_now nodes.old edges.now faces.now h)
         (RemoveIsoNode (pos (node_at nodes.old i).number)) }
 {
     if !map_rows::is_isolated(nodes, i) {
-        return outcomes::refused(h, 9);
+        return Err(Refusal::NotIsolated);
     }
     tables::remove_row(nodes, map::NODE_WIDTH, head::to_usize(h.nodes), i);
-    outcomes::carried(head::changed(h, head::NONE, head::NODE, head::NONE), 0)
+    Ok(Carried {
+        head: head::changed(h, head::NONE, head::NODE, head::NONE),
+        value: 0,
+    })
 }
 
 // Removes an isolated node, or answers the first reason against it.
-pub fn remove_node(nodes: &mut [i64], edges: &[i64], faces: &[i64], h: Head, node: i64) -> Done
+pub fn remove_node(
+    nodes: &mut [i64],
+    edges: &[i64],
+    faces: &[i64],
+    h: Head,
+    node: i64,
+) -> Result<Carried, Refusal>
     requires { Formed nodes.old edges.now faces.now h }
-    ensures { outcome_now nodes.new edges.now faces.now result
+    ensures { outcome_now nodes.new edges.now faces.now (done_of h result)
         ≡ decided (lent_now nodes.old edges.now faces.now h) (RemoveIsoNode node) }
 {
     let n = head::to_usize(h.nodes);
-    let found = tables::find_row(nodes, map::NODE_WIDTH, n, node);
-    let Found::At(i) = found else {
-        return outcomes::refused(h, 4);
+    let Some(i) = tables::find_row(nodes, map::NODE_WIDTH, n, node) else {
+        return Err(Refusal::NoSuchRow);
     };
     remove_at_row(nodes, edges, faces, h, i)
 }

@@ -1,5 +1,6 @@
 -- The sides of edges found in tables are those of the map's edges: of an edge that is named, before a ticket, and of
 -- the last, after it. Assumes nothing.
+use Rattle.std.specs.Prelude.{Option, Some, None}
 use mathlib.Core.Path.{◌≡◌, refl, sym, ap, ◌∙◌}
 use mathlib.Core.Bool.{false, true≢false}
 use mathlib.Core.List.{List, [], ◌∷◌, map, flat_map, map-map}
@@ -8,8 +9,6 @@ use native.Mathlib.Omega.{arith}
 use lib.IntN.{ℤ, pos, nat_abs}
 use lib.ListN.{length, get_or, replicate}
 use Rattle.lists.specs.Tables.{place}
-use Rattle.lists.specs.declared.Found.{Found}
-use Rattle.lists.specs.declared.Found.TheVariants.{At, Missing}
 use Rattle.tables.specs.Tables.{same_z, column, filled}
 use Rattle.tables.proofs.Filled.{Wide, rows_flat}
 use Rattle.map.specs.declared.Head.{Head}
@@ -34,11 +33,11 @@ module _ {nodes edges faces : List ℤ} {h : Head} (f : Formed nodes edges faces
       → pair_named edges (nat_abs h.edges) z ≡ pair_of (edge m (nat_abs z))
   pair_named_lem z e = go (place (same_z z) 0 (column edge_width edges (nat_abs h.edges))) refl
     where
-      go : (p : Found) → place (same_z z) 0 (column edge_width edges (nat_abs h.edges)) ≡ p
+      go : (p : Option ℕ) → place (same_z z) 0 (column edge_width edges (nat_abs h.edges)) ≡ p
           → pair_found edges p ≡ pair_of (edge m (nat_abs z))
-      go (At i) q = ap pair_of (sym (edge_is f i (edge_in f z i q)))
+      go (Some i) q = ap pair_of (sym (edge_is f i (edge_in f z i q)))
           ∙ ap (λ (y : ℤ). pair_of (edge m (nat_abs y))) (sym (edge-number f z i q))
-      go Missing q = absurd (true≢false (sym (edge_none f z q) ∙ e))
+      go None q = absurd (true≢false (sym (edge_none f z q) ∙ e))
 
 -- ---- the last edge
 

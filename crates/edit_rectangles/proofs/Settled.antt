@@ -1,5 +1,6 @@
 -- After the rows of a ticket are edited its tables are those of the map but for rectangles; with the rectangles of the
 -- faces set that it affects they are those of the map. Assumes nothing.
+use Rattle.std.specs.Prelude.{Option, Some, None}
 use mathlib.Core.Path.{◌≡◌, refl, sym, ap, ◌∙◌, subst}
 use mathlib.Core.Bool.{Bool, true, false, cond, true≢false}
 use mathlib.Core.Logic.{inl, inr}
@@ -13,8 +14,6 @@ use lib.Signed.{non_neg}
 use Rattle.lists.specs.Tests.{same}
 use Rattle.lists.specs.Scans.{any_of}
 use Rattle.lists.specs.Tables.{place}
-use Rattle.lists.specs.declared.Found.{Found}
-use Rattle.lists.specs.declared.Found.TheVariants.{At, Missing}
 use Rattle.lists.proofs.Bools.{which, same_refl}
 use Rattle.lists.proofs.Members.{all_of_lem, some_any}
 use Rattle.lists.proofs.Maps.{map_twice}
@@ -59,9 +58,9 @@ both_faces a b = record { first = a.0; second = a.1; third = b.0; fourth = b.1 }
 named-natural : (l : List ℤ) (n : ℕ) (z : ℤ) → Natural (pair_named l n z)
 named-natural l n z = go (place (same_z z) 0 (column edge_width l n))
   where
-    go : (p : Found) → Natural (pair_found l p)
-    go (At i) = (refl, refl)
-    go Missing = (refl, refl)
+    go : (p : Option ℕ) → Natural (pair_found l p)
+    go (Some i) = (refl, refl)
+    go None = (refl, refl)
 
 last_natural : (l : List ℤ) (n : ℕ) → Natural (pair_last l n)
 last_natural l zero = (refl, refl)

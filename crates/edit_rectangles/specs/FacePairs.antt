@@ -1,10 +1,8 @@
 -- The faces on the sides of edges by row, four faces whose rectangles are set, and the rectangles then.
-use Rattle.std.specs.Prelude.{◌≡◌, Bool, cond, ◌||◌, List, [], ◌∷◌, ℕ, zero, suc, ℤ, pos, nat_abs, get_or}
+use Rattle.std.specs.Prelude.{◌≡◌, Bool, cond, ◌||◌, List, [], ◌∷◌, ℕ, zero, suc, ℤ, pos, nat_abs, get_or, Option, Some, None}
 use Rattle.lists.specs.Tests.{same}
 use Rattle.lists.specs.Scans.{any_of}
 use Rattle.lists.specs.Tables.{place}
-use Rattle.lists.specs.declared.Found.{Found}
-use Rattle.lists.specs.declared.Found.TheVariants.{At, Missing}
 use Rattle.tables.specs.Tables.{same_z, column}
 use Rattle.bounding_boxes.specs.declared.Extent.{Extent}
 use Rattle.map.specs.declared.Head.{Head}
@@ -22,9 +20,9 @@ abbrev pub pair_of : Edge → FacePair
 pair_of e = record { left = pos e.left; right = pos e.right }
 
 -- of the edge with a number; none where it is missing
-abbrev pub pair_found : List ℤ → Found → FacePair
-pair_found l (At i) = pair_of (edge_at l i)
-pair_found l Missing = no_pair
+abbrev pub pair_found : List ℤ → Option ℕ → FacePair
+pair_found l (Some i) = pair_of (edge_at l i)
+pair_found l None = no_pair
 
 abbrev pub pair_named : List ℤ → ℕ → ℤ → FacePair
 pair_named l n z = pair_found l (place (same_z z) 0 (column edge_width l n))

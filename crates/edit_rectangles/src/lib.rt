@@ -9,7 +9,6 @@ ghost use Rattle.map_rows.specs.Rows.{EdgeRow, EdgeRows, EdgesInRange, edge_at, 
 ghost use Rattle.edit_rectangles.specs.FacePairs.{pair_of, pair_named, pair_last, both, affected_before};
 ghost use Rattle.edit_rectangles.specs.FacePairs.{affected_after, AreFaces, other_than, set_four};
 
-use lists::Found;
 use map::Head;
 
 // The faces on the sides of an edge; 0 for none.
@@ -46,7 +45,7 @@ fn pair_of(edges: &[i64], count: usize, edge: i64) -> FacePair
     ensures { result ≡ pair_named edges.now count edge }
 {
     let found = tables::find_row(edges, map::EDGE_WIDTH, count, edge);
-    let Found::At(i) = found else {
+    let Some(i) = found else {
         return NO_PAIR;
     };
     pair_at(edges, i)

@@ -1,4 +1,5 @@
 -- What kinds 13 and 14 answer, of an edge row that is found. Assumes nothing.
+use Rattle.std.specs.Prelude.{Some}
 use mathlib.Core.Path.{◌≡◌, refl, sym, ap, ap₂, ◌∙◌}
 use mathlib.Core.Bool.{Bool, true, false, cond, not, ◌&&◌}
 use mathlib.Core.List.{List}
@@ -7,7 +8,6 @@ use native.Mathlib.Omega.{arith}
 use lib.IntN.{ℤ, pos, negsuc, nat_abs}
 use Rattle.lists.specs.Tests.{same, bit}
 use Rattle.lists.specs.Tables.{place}
-use Rattle.lists.specs.declared.Found.TheVariants.{At}
 use Rattle.lists.proofs.Bools.{same_eq, &&-false}
 use Rattle.map.specs.declared.Head.{Head}
 use Rattle.map.specs.declared.Variant.{Variant}
@@ -21,7 +21,7 @@ use Rattle.map.specs.Ticket.{carried}
 use Rattle.map_laws.proofs.Reasons.{remove_new}
 use Rattle.map_rows.specs.Rows.{edge_at}
 use Rattle.map_rows.proofs.Rows.{edge-row_of}
-use Rattle.outcomes.specs.declared.Done.{Done}
+use Rattle.outcomes.specs.declared.Carried.{Carried}
 use Rattle.outcomes.specs.Outcomes.{Formed}
 use Rattle.outcomes.proofs.Formed.{counted, edge_rows_lem}
 use Rattle.outcomes.specs.Variants.{remove_ticket}
@@ -32,7 +32,7 @@ use Rattle.face_rows.proofs.Healed.{removed_is}
 use Rattle.edit_remove.specs.RemovedEdges.{RemovableEdge, EdgeRemoved, removed_edge, value_left}
 
 module _ {nodes edges faces : List ℤ} {h : Head} (f : Formed nodes edges faces h) (how : Variant) (makes : Bool)
-    (z : ℤ) (i : ℕ) (at : place (same_z z) 0 (column edge_width edges (nat_abs h.edges)) ≡ At i)
+    (z : ℤ) (i : ℕ) (at : place (same_z z) 0 (column edge_width edges (nat_abs h.edges)) ≡ Some i)
     (made : makes ≡ makes_face how (nat_abs z) (map_of (lent nodes edges faces h))) where
   abbrev m : Map
   m = map_of (lent nodes edges faces h)
@@ -83,7 +83,7 @@ module _ {nodes edges faces : List ℤ} {h : Head} (f : Formed nodes edges faces
   carried-map New = refl
   carried-map Mod = refl
 
-  pub removed_lent : {nodes' edges' faces' : List ℤ} {r : Done}
+  pub removed_lent : {nodes' edges' faces' : List ℤ} {r : Carried}
       → EdgeRemoved nodes edges faces h i makes nodes' edges' faces' r
       → lent_with (boxes f) (sizes_of (lent nodes edges faces h)) (carried m (remove_ticket how z)).0
       ≡ lent nodes' edges' faces' r.head

@@ -22,14 +22,13 @@ use Rattle.map.specs.Rows.{Node, Edge, Map, map_of, node_cells, edge_cells, coun
 use Rattle.map.specs.Edits.{with_face, undrawn, with_sides, renamed, renamed_node, renamed_faces}
 use Rattle.map_laws.proofs.Outlines.{undrawn_face_list}
 use Rattle.map_rows.specs.Rows.{edge_at, faces_in}
-use Rattle.outcomes.specs.declared.Done.{Done}
 use Rattle.outcomes.specs.Outcomes.{Formed}
 use Rattle.face_rows.specs.Holds.{TablesOf, face_kept, merged_sides}
 use Rattle.face_rows.proofs.Formed.{boxes, formed_held, holds_before}
 use Rattle.face_rows.proofs.Healed.{healed_map_lem, healed_nodes_long, healed_edges_long, healed_number}
 use Rattle.edge_rows.specs.Holds.{Undrawn}
 use Rattle.edge_rows.proofs.Undrawn.{undrawn_head}
-use Rattle.edit_remove.specs.RemovedEdges.{EdgeRemoved, removed_edge, value_left}
+use Rattle.edit_remove.specs.RemovedEdges.{removed_edge}
 
 -- ---- the edge undrawn
 
@@ -120,11 +119,3 @@ module _ {nodes edges faces : List ℤ} {h : Head} (f : Formed nodes edges faces
       (healed_nodes_long (formed_held f) row makes after)
       (healed_edges_long (formed_held f) row makes after) i row.number
       (healed_number (formed_held f) row makes after i t) ef u
-
-  -- what a call left and answered
-  pub removed_as : {nodes' edges' faces' : List ℤ} {h' : Head} {v : ℤ} {r : Done} → r
-      ≡ record { head = h'; answer = record { refusal = 0; value = v } }
-      → TablesOf (boxes f) nodes edges faces h (removed_edge makes row whole) nodes' edges' faces' h'
-      → v ≡ value_left makes row whole
-      → EdgeRemoved nodes edges faces h i makes nodes' edges' faces' r
-  removed_as e holds value = record { holds = rw e holds; value = ap (λ (d : Done). d.answer.value) e ∙ value }

@@ -6,7 +6,7 @@ use Rattle.map.specs.Limits.{last_number}
 use Rattle.map.specs.Rows.{Edge, Map, map_of, rectangle, lent}
 use Rattle.map.specs.Edits.{undrawn}
 use Rattle.map_rows.specs.Rows.{edge_at, EdgeRow}
-use Rattle.outcomes.specs.declared.Done.{Done}
+use Rattle.outcomes.specs.declared.Carried.{Carried}
 use Rattle.outcomes.specs.Outcomes.{Formed}
 use Rattle.face_rows.specs.Holds.{TablesOf, face_kept, merged_sides}
 
@@ -28,7 +28,7 @@ pub record RemovableEdge (nodes edges faces : List ℤ) (h : Head) (i : ℕ) (ma
 
 -- the rectangles are still those of the edges before
 pub record EdgeRemoved (nodes edges faces : List ℤ) (h : Head) (i : ℕ) (makes : Bool) (nodes' edges' faces' : List ℤ)
-    (r : Done) : Type 0 where
+    (r : Carried) : Type 0 where
   pub holds : TablesOf (rectangle (map_of (lent nodes edges faces h)).edges) nodes edges faces h
       (removed_edge makes (edge_at edges i) (map_of (lent nodes edges faces h))) nodes' edges' faces' r.head
-  pub value : r.answer.value ≡ value_left makes (edge_at edges i) (map_of (lent nodes edges faces h))
+  pub value : r.value ≡ value_left makes (edge_at edges i) (map_of (lent nodes edges faces h))

@@ -4,12 +4,12 @@
 ghost use Rattle.std.specs.Prelude.{◌≡◌, cond, pos};
 ghost use Rattle.map.specs.Edits.{is_new};
 ghost use Rattle.map.specs.Loans.{lent_now};
-ghost use Rattle.outcomes.specs.Outcomes.{Formed, edited, outcome_now};
+ghost use Rattle.outcomes.specs.Outcomes.{Formed, done_of, edited, outcome_now};
 ghost use Rattle.outcomes.specs.Variants.{remove_ticket};
 ghost use Rattle.edit_remove.specs.RemovedEdges.{RemovableEdge, EdgeRemoved};
 
-use map::{Head, Variant};
-use outcomes::Done;
+use map::{Head, Refusal, Variant};
+use outcomes::Carried;
 
 // The value of a removal: the face that is left, or 0 for kind 14.
 fn value_of(how: Variant, face: i64) -> i64
@@ -29,7 +29,7 @@ fn remove_and_heal(
     h: Head,
     i: usize,
     makes: bool,
-) -> Done
+) -> Carried
     requires { RemovableEdge nodes.old edges.old faces.old h i makes }
     ensures { EdgeRemoved nodes.old edges.old faces.old h i makes
         nodes.new edges.new faces.new result }
@@ -37,17 +37,19 @@ fn remove_and_heal(
     let left = edges[i * map::EDGE_WIDTH + map::LEFT];
     let right = edges[i * map::EDGE_WIDTH + map::RIGHT];
     if left == right {
-        let after = edge_rows::undraw(nodes, edges, h, i, left);
-        return outcomes::carried(after, -1);
+        let head = edge_rows::undraw(nodes, edges, h, i, left);
+        return Carried { head, value: -1 };
     }
     let healed = face_rows::heal_faces(nodes, edges, faces, h, left, right, makes);
-    let face = healed.answer.value;
-    let after = edge_rows::undraw(nodes, edges, healed.head, i, face);
-    outcomes::carried(after, face)
+    let head = edge_rows::undraw(nodes, edges, healed.head, i, healed.value);
+    Carried {
+        head,
+        value: healed.value,
+    }
 }
 
-// Removes an edge, or answers the first reason against it (kinds 13 and 14); where its two faces differ, they become
-// one.
+// Removes an edge, or is turned down by the first reason against it (kinds 13 and 14); where its two faces differ, they
+// become one.
 pub fn remove_edge(
     nodes: &mut [i64],
     edges: &mut [i64],
@@ -55,17 +57,15 @@ pub fn remove_edge(
     h: Head,
     how: Variant,
     edge: i64,
-) -> Done
+) -> Result<Carried, Refusal>
     requires { Formed nodes.old edges.old faces.old h }
-    ensures { outcome_now nodes.new edges.new faces.new result
+    ensures { outcome_now nodes.new edges.new faces.new (done_of h result)
         ≡ edited (lent_now nodes.old edges.old faces.old h) (remove_ticket how edge) }
 {
-    let judged = reason_edges::judge_removal(nodes, edges, faces, h, how, edge);
-    let reason = judged.reason;
-    if reason != 0 {
-        return outcomes::refused(h, reason);
-    }
-    let i = judged.row;
-    let removed = remove_and_heal(nodes, edges, faces, h, i, judged.makes);
-    outcomes::carried(removed.head, value_of(how, removed.answer.value))
+    let judged = reason_edges::judge_removal(nodes, edges, faces, h, how, edge)?;
+    let removed = remove_and_heal(nodes, edges, faces, h, judged.row, judged.makes);
+    Ok(Carried {
+        head: removed.head,
+        value: value_of(how, removed.value),
+    })
 }

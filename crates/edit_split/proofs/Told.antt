@@ -1,13 +1,16 @@
 -- The reasons of a split from what the tests answered, in the map's terms. Assumes nothing.
-use mathlib.Core.Path.{◌≡◌, refl, ap, ◌∙◌}
+use Rattle.std.specs.Prelude.{None}
+use mathlib.Core.Path.{◌≡◌, refl, sym, ap, ◌∙◌}
 use mathlib.Core.Bool.{Bool, true, ◌&&◌}
 use mathlib.Core.List.{List, ◌∷◌, ◌++◌}
 use Prim.Native.Nat.{ℕ, ◌<◌}
 use lib.Dec.{lit<, lit≤}
 use lib.IntN.{ℤ, pos, nat_abs}
+use mir.Syntax.{w64}
+use mir.Val.{of_z, to_z, SFits}
+use mir.Facts.{to_z-of_z}
 use borrow.Author.Tests.{not-false}
 use Rattle.lists.specs.Tables.{place}
-use Rattle.lists.specs.declared.Found.TheVariants.{Missing}
 use Rattle.tables.specs.Tables.{same_z, column}
 use Rattle.curves.specs.Curves.{coordinate}
 use Rattle.map.specs.declared.Counts.{Counts}
@@ -25,6 +28,24 @@ use Rattle.outcomes.specs.Variants.{split_ticket}
 use Rattle.outcomes.proofs.Formed.{room_at_lem, edge_none}
 use Rattle.outcomes.proofs.FoundRows.{edge_there_lem, edge_is}
 use Rattle.edit_split.specs.Cuts.{point_reasons, split_numbers}
+
+-- the reasons of the point, of numbers as they were passed
+pub point_told : (nodes edges : List ℤ) (i : ℕ) {n k : ℕ} {x y : ℤ} {r : ℕ} → n ≡ k → SFits w64 x → SFits w64 y
+    → r ≡ first_reason (point_reasons nodes n edges i (to_z w64 (of_z w64 x)) (to_z w64 (of_z w64 y)))
+    → first_reason (point_reasons nodes k edges i x y) ≡ r
+point_told nodes edges i en fx fy e =
+    let x = to_z-of_z {w = w64} fx in
+    let y = to_z-of_z {w = w64} fy in
+    sym (e ∙ (λ j. first_reason (point_reasons nodes (en j) edges i (x j) (y j))))
+
+-- and those after them
+pub split_told : (nodes edges : List ℤ) (n i : ℕ) (late : Reasons) {x y : ℤ} {r : ℕ} → SFits w64 x → SFits w64 y
+    → r ≡ first_reason (point_reasons nodes n edges i (to_z w64 (of_z w64 x)) (to_z w64 (of_z w64 y)) ++ late)
+    → first_reason (point_reasons nodes n edges i x y ++ late) ≡ r
+split_told nodes edges n i late fx fy e =
+    let x = to_z-of_z {w = w64} fx in
+    let y = to_z-of_z {w = w64} fy in
+    sym (e ∙ (λ j. first_reason (point_reasons nodes n edges i (x j) (y j) ++ late)))
 
 -- a point that was not turned down is in range, and neither 20 nor 21 holds
 module _ (x y : ℤ) (a b : Bool) (late : Reasons)
@@ -56,7 +77,7 @@ module _ {nodes edges faces : List ℤ} {h : Head} (f : Formed nodes edges faces
       go Mod = refl
 
   -- a row that is missing is reason 4
-  pub split_missing : (z x y : ℤ) → place (same_z z) 0 (column edge_width edges (nat_abs h.edges)) ≡ Missing
+  pub split_missing : (z x y : ℤ) → place (same_z z) 0 (column edge_width edges (nat_abs h.edges)) ≡ None
       → first_reason (reasons s m (split_ticket how z x y)) ≡ 4
   split_missing z x y e = ap first_reason (split_is z x y) ∙ first_hit 4 _ _ (edge_none f z e)
 

@@ -11,20 +11,20 @@ ghost use Rattle.curve_edits.specs.Lines.{line_of};
 ghost use Rattle.map.specs.Limits.{max_edges, edge_width};
 ghost use Rattle.map.specs.Rows.{counts};
 ghost use Rattle.map.specs.Reasons.{first_reason};
+ghost use Rattle.map.specs.Refusals.{refusal_of};
 ghost use Rattle.map.specs.Loans.{lent_now};
 ghost use Rattle.map_rows.specs.Rows.{EdgeRow, NodeRows, edge_at};
 ghost use Rattle.map_rows.specs.Cells.{cells_of};
 ghost use Rattle.head.specs.Heads.{Counted, changed_head, sizes_in, room_at};
-ghost use Rattle.outcomes.specs.Outcomes.{Formed, edited, outcome_now};
+ghost use Rattle.outcomes.specs.Outcomes.{Formed, edited, done_of, outcome_now};
 ghost use Rattle.outcomes.specs.Variants.{split_ticket, own_or_next};
 ghost use Rattle.edit_split.specs.Cuts.{led_to_halves, start_incidence, end_incidence, start_half_written, cut_row};
 ghost use Rattle.edit_split.specs.Cuts.{CuttableEdge, CuttableRow, point_reasons, split_numbers, end_number};
 
 use curve_edits::Line;
-use lists::Found;
-use map::{Counts, Head, Variant};
+use map::{Counts, Head, Refusal, Variant};
 use map_rows::Incidence;
-use outcomes::Done;
+use outcomes::Carried;
 use plane::Point;
 
 // ---- an edge row cut in two
@@ -133,19 +133,29 @@ fn lies_on(edges: &[i64], i: usize, p: Point) -> bool
     reason_curves::on_curve(map_rows::curve_of(edges, i), p)
 }
 
-// 5, 10 or 13 against the point, of edge row i; 0 for none.
-fn point_reason(nodes: &[i64], n: usize, edges: &[i64], i: usize, x: i64, y: i64) -> u64
+// 5, 10 and 13, against the point, of edge row i.
+fn check_point(
+    nodes: &[i64],
+    n: usize,
+    edges: &[i64],
+    i: usize,
+    x: i64,
+    y: i64,
+) -> Result<(), Refusal>
     requires { NodeRows nodes.now n × EdgeRow edges.now i }
-    ensures { result ≡ first_reason (point_reasons nodes.now n edges.now i x y) }
+    ensures { refusal_of result ≡ first_reason (point_reasons nodes.now n edges.now i x y) }
 {
     if !reason_curves::in_range(x, y) {
-        return 5;
+        return Err(Refusal::OutOfRange);
     }
     let p = reason_curves::point_of(x, y);
     if reason_curves::node_at(nodes, n, n, p) {
-        return 10;
+        return Err(Refusal::PointTaken);
     }
-    if lies_on(edges, i, p) { 0 } else { 13 }
+    if !lies_on(edges, i, p) {
+        return Err(Refusal::NotOnCurve);
+    }
+    Ok(())
 }
 
 // The numbers that are given: a node's, and one edge's or two.
@@ -162,8 +172,8 @@ fn split_numbers(how: Variant) -> Counts
     }
 }
 
-// The first reason from 5 on against a split of edge row i; 0 for none.
-fn split_reason(
+// From 5 on, against a split of edge row i.
+fn check_split(
     nodes: &[i64],
     edges: &[i64],
     faces: &[i64],
@@ -172,17 +182,14 @@ fn split_reason(
     i: usize,
     x: i64,
     y: i64,
-) -> u64
+) -> Result<(), Refusal>
     requires { Formed nodes.now edges.now faces.now h × (i < nat_abs h.edges) }
-    ensures { result ≡ first_reason (point_reasons nodes.now (nat_abs h.nodes) edges.now i x y
+    ensures { refusal_of result ≡ first_reason (point_reasons nodes.now (nat_abs h.nodes) edges.now i x y
         ++ room_at (sizes_in nodes.now edges.now faces.now) h (counts 1 1 0)
         (split_numbers how)) }
 {
-    let reason = point_reason(nodes, head::to_usize(h.nodes), edges, i, x, y);
-    if reason != 0 {
-        return reason;
-    }
-    head::room_reason(
+    check_point(nodes, head::to_usize(h.nodes), edges, i, x, y)?;
+    head::check_room(
         head::sizes_of(nodes, edges, faces),
         h,
         head::NODE_AND_EDGE,
@@ -236,20 +243,20 @@ fn split_at_row(
     i: usize,
     x: i64,
     y: i64,
-) -> Done
+) -> Result<Carried, Refusal>
     requires { Formed nodes.old edges.old faces.now h × (i < nat_abs h.edges) }
-    ensures { outcome_now nodes.new edges.new faces.now result
+    ensures { outcome_now nodes.new edges.new faces.now (done_of h result)
         ≡ edited (lent_now nodes.old edges.old faces.now h)
         (split_ticket how (pos (edge_at edges.old i).number) x y) }
 {
-    let reason = split_reason(nodes, edges, faces, h, how, i, x, y);
-    if reason != 0 {
-        return outcomes::refused(h, reason);
-    }
+    check_split(nodes, edges, faces, h, how, i, x, y)?;
     let node = h.next_node;
     cut_edge(edges, h, how, i, x, y);
     map_rows::write_node(nodes, head::to_usize(h.nodes), node, x, y, -1);
-    outcomes::carried(after_split(h, how), node)
+    Ok(Carried {
+        head: after_split(h, how),
+        value: node,
+    })
 }
 
 // Cuts an edge in two at a point of its curve, where a new node stands, or answers the first reason against it.
@@ -262,16 +269,15 @@ pub fn split_edge(
     edge: i64,
     x: i64,
     y: i64,
-) -> Done
+) -> Result<Carried, Refusal>
     requires { Formed nodes.old edges.old faces.now h }
-    ensures { outcome_now nodes.new edges.new faces.now result
+    ensures { outcome_now nodes.new edges.new faces.now (done_of h result)
         ≡ edited (lent_now nodes.old edges.old faces.now h)
         (split_ticket how edge x y) }
 {
     let e = head::to_usize(h.edges);
-    let found = tables::find_row(edges, map::EDGE_WIDTH, e, edge);
-    let Found::At(i) = found else {
-        return outcomes::refused(h, 4);
+    let Some(i) = tables::find_row(edges, map::EDGE_WIDTH, e, edge) else {
+        return Err(Refusal::NoSuchRow);
     };
     split_at_row(nodes, edges, faces, h, how, i, x, y)
 }

@@ -1,13 +1,13 @@
 -- Tables of zeros hold the empty map. Assumes nothing.
 use mathlib.Core.Path.{◌≡◌, refl, sym, ap, ◌∙◌}
-use mathlib.Core.Bool.{true, false}
-use mathlib.Core.List.{List, [], ◌∷◌, append-nil, flat_map}
+use borrow.Author.Tests.{not-false}
+use mathlib.Core.Bool.{true, not}
+use mathlib.Core.List.{List, [], ◌∷◌, flat_map}
 use Prim.Native.Nat.{ℕ, suc, ◌+◌, ◌*◌, ◌-◌, ◌/◌, ◌≤◌}
-use native.Mathlib.Nat.{zero-add, sub-zero}
+use native.Mathlib.Nat.{sub-zero}
 use native.Mathlib.Omega.{arith}
 use lib.IntN.{ℤ, pos}
-use lib.ListN.{length, replicate, drop_of_length-le}
-use lib.Seq.{paste, take_all}
+use lib.ListN.{length, replicate}
 use Rattle.tables.specs.Tables.{filled, whole_rows}
 use Rattle.tables.proofs.Filled.{whole_rows_lem}
 use Rattle.map.specs.declared.Head.{Head}
@@ -15,19 +15,10 @@ use Rattle.map.specs.Limits.{max_nodes, max_edges, max_faces, node_width, edge_w
 use Rattle.map.specs.Limits.{PointLimit, is_record, limit_of}
 use Rattle.map.specs.Rows.{Lent, empty_map, lent_of, rectangle, sizes_for, whole, head_of, lent}
 use Rattle.map.specs.Reasons.{first_reason}
-use Rattle.map.specs.Ticket.{emptied, refused}
+use Rattle.map.specs.Ticket.{emptied, create_reasons}
+use Rattle.map.proofs.Reasons.{first_zero}
 use Rattle.map.proofs.RoundTrip.{whole_tables}
 use Rattle.outcomes.proofs.Formed.{lent_is}
-
--- a write over the whole of a list
-pub paste_all : {A : Type 0} (d s : List A) → length s ≡ length d → paste d 0 s (length d) ≡ s
-paste_all d s e =
-    rw (
-      zero-add (length d),
-      take_all (length d) s (omega arith),
-      drop_of_length-le d {i = length d} (omega arith),
-      append-nil s,
-    )
 
 abbrev pub zeros : List ℤ → List ℤ
 zeros l = replicate (length l) (pos 0)
@@ -76,10 +67,13 @@ module _ (nodes edges faces : List ℤ) (h : Head) (w : whole (lent nodes edges 
     answer = record { refusal = 0; value = pos 0 };
   }) (empty-lent (limit_of k)))
 
-pub emptied-refused : (l : Lent) (k : ℤ) → whole l ≡ false → emptied l k ≡ refused l 1
-unfolding emptied first_reason
-emptied-refused l k w = rw w
+-- no reason against a creation
+module _ (l : Lent) (k : ℤ) (e : first_reason (create_reasons l k) ≡ 0) where
+  pub create_whole : whole l ≡ true
+  create_whole = not-false (whole l) (first_zero 1 (not (whole l)) ((2, not (is_record k)) ∷ []) (omega arith) e).0
 
-pub emptied_unrecorded : (l : Lent) (k : ℤ) → whole l ≡ true → is_record k ≡ false → emptied l k ≡ refused l 2
-unfolding emptied first_reason
-emptied_unrecorded l k w r = rw (w, r)
+  pub create_recorded : is_record k ≡ true
+  create_recorded =
+      not-false (is_record k)
+      (first_zero 2 (not (is_record k)) [] (omega arith)
+      (first_zero 1 (not (whole l)) ((2, not (is_record k)) ∷ []) (omega arith) e).1).0

@@ -1,20 +1,50 @@
 // The engine: the empty map, one ticket, the edges of a face.
 #![tactic(auto)]
 
-ghost use Rattle.std.specs.Prelude.{◌≡◌, pos, length, replicate};
-ghost use Rattle.map.specs.Ticket.{ticket, emptied, edges_of_face};
+ghost use Rattle.std.specs.Prelude.{◌≡◌};
+ghost use Rattle.map.specs.Reasons.{first_reason};
+ghost use Rattle.map.specs.Refusals.{refusal_of};
+ghost use Rattle.map.specs.Ticket.{ticket, create_reasons, emptied, edges_of_face};
 ghost use Rattle.map.specs.Loans.{lent_now};
-ghost use Rattle.outcomes.specs.Outcomes.{outcome_now};
+ghost use Rattle.outcomes.specs.Outcomes.{done_of, outcome_now};
 
-use map::{Answer, Head};
-use outcomes::Done;
+use map::{Answer, Head, Refusal};
+use outcomes::{Carried, Done};
 
-// Every number of the table is 0.
-fn wipe(t: &mut [i64])
-    ensures { t.new ≡ replicate (length t.old) (pos 0) }
+// ---- the empty map
+
+// The reasons against creation: 1 where the tables are not whole, 2 for a number of points that is no record.
+fn check_create(nodes: &[i64], edges: &[i64], faces: &[i64], points: i64) -> Result<(), Refusal>
+    ensures { (h : _) → refusal_of result
+        ≡ first_reason (create_reasons (lent_now nodes.now edges.now faces.now h) points) }
 {
-    let n = t.len();
-    tables::clear(t, 0, n);
+    if !form_ranges::is_whole(nodes, edges, faces) {
+        return Err(Refusal::NotWhole);
+    }
+    if !head::is_record(points) {
+        return Err(Refusal::NotInForm);
+    }
+    Ok(())
+}
+
+// Creates the empty map, or answers the first reason against it.
+fn create(
+    nodes: &mut [i64],
+    edges: &mut [i64],
+    faces: &mut [i64],
+    points: i64,
+) -> Result<Carried, Refusal>
+    ensures { (h : _) → outcome_now nodes.new edges.new faces.new (done_of h result)
+        ≡ emptied (lent_now nodes.old edges.old faces.old h) points }
+{
+    check_create(nodes, edges, faces, points)?;
+    nodes.fill(0);
+    edges.fill(0);
+    faces.fill(0);
+    Ok(Carried {
+        head: head::empty(points),
+        value: 0,
+    })
 }
 
 // The empty map for curves of at most so many points, 6 or 12, whatever the tables and the head held; 1 where the
@@ -29,16 +59,24 @@ pub fn empty_map(
     ensures { outcome_now nodes.new edges.new faces.new result
         ≡ emptied (lent_now nodes.old edges.old faces.old h) points }
 {
-    if !form_ranges::is_whole(nodes, edges, faces) {
-        return outcomes::refused(h, 1);
-    }
-    if !head::is_record(points) {
-        return outcomes::refused(h, 2);
-    }
-    wipe(nodes);
-    wipe(edges);
-    wipe(faces);
-    outcomes::carried(head::empty(points), 0)
+    outcomes::done_after(h, create(nodes, edges, faces, points))
+}
+
+// ---- one ticket
+
+// Carries out a ticket, or answers the first reason against it.
+fn carry_out(
+    nodes: &mut [i64],
+    edges: &mut [i64],
+    faces: &mut [i64],
+    h: Head,
+    t: &[i64],
+) -> Result<Carried, Refusal>
+    ensures { outcome_now nodes.new edges.new faces.new (done_of h result)
+        ≡ ticket (lent_now nodes.old edges.old faces.old h) t.now }
+{
+    form::check_lent(nodes, edges, faces, h)?;
+    edit_dispatch::edit(nodes, edges, faces, h, t)
 }
 
 // One ticket, on any tables and any run of numbers.
@@ -46,14 +84,10 @@ pub fn ticket(nodes: &mut [i64], edges: &mut [i64], faces: &mut [i64], h: Head, 
     ensures { outcome_now nodes.new edges.new faces.new result
         ≡ ticket (lent_now nodes.old edges.old faces.old h) t.now }
 {
-    if !form_ranges::is_whole(nodes, edges, faces) {
-        return outcomes::refused(h, 1);
-    }
-    if !form::in_form(nodes, edges, faces, h) {
-        return outcomes::refused(h, 2);
-    }
-    edit_dispatch::edit(nodes, edges, faces, h, t)
+    outcomes::done_after(h, carry_out(nodes, edges, faces, h, t))
 }
+
+// ---- the edges of a face
 
 // Each ring of the face as its length and then its directed edges. The value is the count of numbers written.
 pub fn edges_of_face(
@@ -68,5 +102,5 @@ pub fn edges_of_face(
         ≡ edges_of_face (lent_now nodes.now edges.now faces.now h) face
         list.old }
 {
-    face_edges::edges_of_face(nodes, edges, faces, h, face, list)
+    Answer::from(face_edges::edges_of_face(nodes, edges, faces, h, face, list))
 }

@@ -1,8 +1,9 @@
 -- The call's answer, reason by reason, and what tables in form give the walks. Assumes nothing.
+use Rattle.std.specs.Prelude.{Some, None}
 use mathlib.Core.Path.{◌≡◌, refl, ap, ap₂, ◌∙◌}
 use mathlib.Core.Bool.{Bool, true, false, cond, not, ◌&&◌}
 use mathlib.Core.List.{List, [], ◌∷◌, flat_map}
-use Prim.Native.Nat.{ℕ, ◌≤◌}
+use Prim.Native.Nat.{ℕ, zero, suc, ◌<◌, ◌≤◌}
 use native.Mathlib.Omega.{arith}
 use lib.Dec.{T, ltb}
 use lib.IntN.{ℤ, pos, negsuc, nat_abs}
@@ -11,7 +12,6 @@ use lib.Signed.{non_neg}
 use Rattle.lists.specs.Tests.{same}
 use Rattle.lists.specs.Scans.{any_of, keep}
 use Rattle.lists.specs.Tables.{place}
-use Rattle.lists.specs.declared.Found.TheVariants.{At, Missing}
 use Rattle.lists.proofs.Bools.{≡→T}
 use Rattle.planar_maps.specs.Map.{Dart, Linked}
 use Rattle.tables.specs.Tables.{same_z, column}
@@ -19,9 +19,8 @@ use Rattle.map.specs.declared.Head.{Head}
 use Rattle.map.specs.Limits.{face_width}
 use Rattle.map.specs.Rows.{Map, Lent, map_of, whole, edge, lent}
 use Rattle.map.specs.Darts.{arcs, directed, leaves, next, bears, ring, lower, firsts}
-use Rattle.map.specs.Form.{formed, in_form}
 use Rattle.map.specs.Reasons.{first_reason, no_face}
-use Rattle.map.specs.Ticket.{Listed, ring_numbers, face_edges, list_unless, edges_of_face}
+use Rattle.map.specs.Ticket.{Listed, lent_reasons, ring_numbers, face_edges, list_unless, edges_of_face}
 use Rattle.map_laws.proofs.Rings.{ring-same}
 use Rattle.map_rows.specs.Rows.{edge_map}
 use Rattle.map_rows.proofs.Rows.{face_number_in}
@@ -29,6 +28,7 @@ use Rattle.map_rows.proofs.Lookups.{face_found, face_missing}
 use Rattle.head.specs.Heads.{counts_of}
 use Rattle.form_ranges.specs.Ranges.{map_in}
 use Rattle.form_ranges.proofs.Parts.{face_rows_lem, edge_rows_lem, map_is}
+use Rattle.form.proofs.Lent.{lent_first, lent_passed}
 use Rattle.form.proofs.Parts.{InForm, whole_room}
 use Rattle.face_edges.specs.Listing.{Rings}
 use Rattle.map.proofs.Linked as form-linked
@@ -38,25 +38,27 @@ use Rattle.map.proofs.Linked as form-linked
 abbrev pub refused : List ℤ → ℕ → Listed
 refused list r = record { list = list; answer = record { refusal = r; value = pos 0 } }
 
+unless_refused : (list written : List ℤ) (n : ℕ) → 0 < n → list_unless list written n ≡ refused list n
+unless_refused list written zero some = absurd (omega arith)
+unless_refused list written (suc n) some = refl
+
 module _ (l : Lent) (f : ℤ) (list : List ℤ) where
-  pub not-whole : whole l ≡ false → edges_of_face l f list ≡ refused list 1
-  unfolding edges_of_face first_reason
-  not-whole e = rw e
+  -- 1 or 2
+  pub turned : {n : ℕ} → 0 < n → first_reason (lent_reasons l) ≡ n → edges_of_face l f list ≡ refused list n
+  unfolding edges_of_face
+  turned {n} some e =
+      let written = face_edges (map_of l) (nat_abs f) in
+      ap (list_unless list written) (lent_first l _ some e) ∙ unless_refused list written n some
 
-  module _ (w : whole l ≡ true) where
-    pub not-formed : in_form l ≡ false → edges_of_face l f list ≡ refused list 2
+  module _ (none : first_reason (lent_reasons l) ≡ 0) where
+    pub face_missed : no_face (map_of l) f ≡ true → edges_of_face l f list ≡ refused list 4
     unfolding edges_of_face first_reason
-    not-formed e = rw (w, e)
+    face_missed e = rw (lent_passed l _ none, e)
 
-    module _ (g : in_form l ≡ true) where
-      pub face_missed : no_face (map_of l) f ≡ true → edges_of_face l f list ≡ refused list 4
-      unfolding edges_of_face first_reason
-      face_missed e = rw (w, g, e)
-
-      pub from_here : no_face (map_of l) f ≡ false → (written : List ℤ) → face_edges (map_of l) (nat_abs f) ≡ written
-          → edges_of_face l f list ≡ list_unless list written (cond (ltb (length list) (length written)) 20 0)
-      unfolding edges_of_face first_reason
-      from_here k written is = rw (w, g, k, is)
+    pub from_here : no_face (map_of l) f ≡ false → (written : List ℤ) → face_edges (map_of l) (nat_abs f) ≡ written
+        → edges_of_face l f list ≡ list_unless list written (cond (ltb (length list) (length written)) 20 0)
+    unfolding edges_of_face first_reason
+    from_here k written is = rw (lent_passed l _ none, k, is)
 
 -- ---- rings are read from the edges
 
@@ -117,7 +119,7 @@ module _ (nodes edges faces : List ℤ) (h : Head) where
 
     -- ---- the face
 
-    pub face_there : (z : ℤ) (i : ℕ) → place (same_z z) 0 (column face_width faces (nat_abs h.faces)) ≡ At i
+    pub face_there : (z : ℤ) (i : ℕ) → place (same_z z) 0 (column face_width faces (nat_abs h.faces)) ≡ Some i
         → T (non_neg z) × (nat_abs z ≤ 999999) × (no_face (map_of (lent nodes edges faces h)) z ≡ false)
     face_there z i e =
         let r = face_rows_lem k.named.in_order in
@@ -129,7 +131,7 @@ module _ (nodes edges faces : List ℤ) (h : Head) where
               ∙ ap₂ (λ (a b : Bool). not (a && b)) (ap non_neg f.1) f.2,
         )
 
-    pub face_none : (z : ℤ) → place (same_z z) 0 (column face_width faces (nat_abs h.faces)) ≡ Missing
+    pub face_none : (z : ℤ) → place (same_z z) 0 (column face_width faces (nat_abs h.faces)) ≡ None
         → no_face (map_of (lent nodes edges faces h)) z ≡ true
     face_none (pos m) e = ap (λ (x : Map). no_face x (pos m)) (map_is nodes edges faces h)
         ∙ ap not (face_missing faces (nat_abs h.faces) (face_rows_lem k.named.in_order).ranges m e)

@@ -3,13 +3,13 @@
 
 ghost use Rattle.std.specs.Prelude.{◌≡◌, ◌++◌, ◌+◌, ◌*◌, ◌≤◌, ◌<◌, length, drop};
 ghost use Rattle.map.specs.Limits.{last_number};
+ghost use Rattle.map.specs.Refusals.{answer_of};
 ghost use Rattle.map.specs.Ticket.{face_edges, edges_of_face};
 ghost use Rattle.map.specs.Loans.{lent_now};
 ghost use Rattle.map_rows.specs.Rows.{edge_map};
 ghost use Rattle.face_edges.specs.Listing.{Rings, Marked, Size, list_rings};
 
-use lists::Found;
-use map::{Answer, Head};
+use map::{Head, Refusal};
 
 // How many numbers the ring of p takes, where p is the first member of a ring of the face, and 0 elsewhere; the ring is
 // marked.
@@ -59,17 +59,17 @@ fn write_rings(edges: &[i64], count: usize, face: usize, list: &mut [i64])
 }
 
 // Lists the rings of the face from the front of the list, where there is room for them.
-fn list_rings(edges: &[i64], count: usize, face: usize, list: &mut [i64]) -> Answer
+fn list_rings(edges: &[i64], count: usize, face: usize, list: &mut [i64]) -> Result<i64, Refusal>
     requires { Rings edges.now count × (face ≤ last_number) }
-    ensures { record { list = list.new; answer = result }
+    ensures { record { list = list.new; answer = answer_of result }
         ≡ list_rings edges.now count face list.old }
 {
     let size = rings_size(edges, count, face);
     if list.len() < size {
-        return outcomes::answered(20, 0);
+        return Err(Refusal::NoRoom);
     }
     write_rings(edges, count, face, list);
-    outcomes::answered(0, size as i64)
+    Ok(size as i64)
 }
 
 // Lists the edges of a face from the front of the list; the value is the count of numbers written. The list's remainder
@@ -81,21 +81,15 @@ pub fn edges_of_face(
     h: Head,
     face: i64,
     list: &mut [i64],
-) -> Answer
-    ensures { record { list = list.new; answer = result }
+) -> Result<i64, Refusal>
+    ensures { record { list = list.new; answer = answer_of result }
         ≡ edges_of_face (lent_now nodes.now edges.now faces.now h) face
         list.old }
 {
-    if !form_ranges::is_whole(nodes, edges, faces) {
-        return outcomes::answered(1, 0);
-    }
-    if !form::in_form(nodes, edges, faces, h) {
-        return outcomes::answered(2, 0);
-    }
+    form::check_lent(nodes, edges, faces, h)?;
     let c = head::counts_of(h);
-    let found = tables::find_row(faces, map::FACE_WIDTH, c.faces, face);
-    let Found::At(i) = found else {
-        return outcomes::answered(4, 0);
+    let Some(_) = tables::find_row(faces, map::FACE_WIDTH, c.faces, face) else {
+        return Err(Refusal::NoSuchRow);
     };
     list_rings(edges, c.edges, face as usize, list)
 }

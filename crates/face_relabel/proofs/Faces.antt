@@ -1,4 +1,5 @@
 -- The sides of nodes and directed edges, in the terms of the tables. Assumes nothing.
+use Rattle.std.specs.Prelude.{Some, None}
 use mathlib.Core.Path.{◌≡◌, refl, sym, ap, ◌∙◌}
 use mathlib.Core.Bool.{Bool, true, false, cond, ◌&&◌, true≢false, false≢true}
 use mathlib.Core.Logic.{inl, inr}
@@ -15,7 +16,6 @@ use lib.Signed.{non_neg, le_z, pos-nat_abs}
 use Rattle.lists.specs.Tests.{same}
 use Rattle.lists.specs.Scans.{all_of, is_some}
 use Rattle.lists.specs.Tables.{sweep, place}
-use Rattle.lists.specs.declared.Found.TheVariants.{At, Missing}
 use Rattle.lists.proofs.Bools.{which, same_eq, same_false}
 use Rattle.plane.specs.declared.Point.{Point}
 use Rattle.plane.specs.Points.{origin}
@@ -70,7 +70,7 @@ module _ (ns : List ℤ) (n : ℕ) (l : List ℤ) (e : ℕ) (s : Sides) (h : Sha
   start_cell : get_or l (i * edge_width + 1) (pos 0) ≡ pos (edge_at l i).start
   start_cell = (cells_of_lem h.edges i hi).start
 
-  pub start_found : (k : ℕ) → place (same_z (get_or l (i * edge_width + 1) (pos 0))) 0 (column node_width ns n) ≡ At k
+  pub start_found : (k : ℕ) → place (same_z (get_or l (i * edge_width + 1) (pos 0))) 0 (column node_width ns n) ≡ Some k
       → (k < n) × (start_of ns n (edge_at l i) ≡ (node_at ns k).at)
   unfolding node
   start_found k f =
@@ -80,7 +80,7 @@ module _ (ns : List ℤ) (n : ℕ) (l : List ℤ) (e : ℕ) (s : Sides) (h : Sha
         ap (λ (o : Option Node). (Option.get_or o (record { number = 0; at = origin; face = none })).at) r.2,
       )
 
-  pub start_there : place (same_z (get_or l (i * edge_width + 1) (pos 0))) 0 (column node_width ns n) ≡ Missing → ⊥
+  pub start_there : place (same_z (get_or l (i * edge_width + 1) (pos 0))) 0 (column node_width ns n) ≡ None → ⊥
   start_there f =
       let none = node_missing ns n h.nodes.ranges (edge_at l i).start
       (ap (λ (z : ℤ). place (same_z z) 0 (column node_width ns n)) (sym start_cell) ∙ f) in

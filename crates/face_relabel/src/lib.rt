@@ -9,10 +9,9 @@ ghost use Rattle.plane.specs.Points.{InRange};
 ghost use Rattle.map.specs.Limits.{node_width, edge_width, max_edges};
 ghost use Rattle.map_rows.specs.Rows.{EdgeRows, edge_at};
 ghost use Rattle.darts.specs.Positions.{side_cell};
-ghost use Rattle.face_relabel.specs.Sharing.{Ringed, ShareableFace, Whole, ring_encloses, start_of, mark_of};
+ghost use Rattle.face_relabel.specs.Sharing.{Ringed, ShareableFace, Whole, ring_encloses, start_of};
 ghost use Rattle.face_relabel.specs.Sharing.{ring_mark, side_shared, node_shared, edge_shared};
 
-use lists::Found;
 use plane::Point;
 
 // A face to share out: its number, a directed edge on the reference side and its ring's numbers for the two sides.
@@ -24,16 +23,33 @@ pub struct Sides {
     pub other: i64,
 }
 
+// The marks of the two sides; 0 stands where there is none yet.
+const INSIDE: u16 = 1;
+
+const OTHER: u16 = 2;
+
+impl Sides {
+    // The number of a side.
+    fn number(self, is_inside: bool) -> i64
+        ensures { result ≡ cond is_inside self.inside self.other }
+    {
+        if is_inside { self.inside } else { self.other }
+    }
+}
+
+// The mark of a side.
+fn mark_of(is_inside: bool) -> u16
+    ensures { result ≡ cond is_inside 1 2 }
+{
+    if is_inside { INSIDE } else { OTHER }
+}
+
 // The number of the side of a point.
 fn side_of(edges: &[i64], count: usize, s: Sides, q: Point) -> i64
     requires { EdgeRows edges.now count × (count ≤ max_edges) × (s.ring < count * 2) × InRange q }
     ensures { result ≡ cond (ring_encloses edges.now count s.ring q) s.inside s.other }
 {
-    if rings::encloses(edges, count, s.ring, q) {
-        s.inside
-    } else {
-        s.other
-    }
+    s.number(rings::encloses(edges, count, s.ring, q))
 }
 
 // Shares out the isolated nodes of the old face: each gets the number of its side.
@@ -50,27 +66,17 @@ pub fn share_nodes(nodes: &mut [i64], n: usize, edges: &[i64], count: usize, s: 
     }
 }
 
-// The mark of a ring whose lowest edge is row i, by the start node of that edge: 1 for the reference side, 2 for the
-// other.
-fn mark_of_ring(nodes: &[i64], n: usize, edges: &[i64], count: usize, s: Sides, i: usize) -> u16
+// Whether a ring whose lowest edge is row i lies on the reference side, by the start node of that edge.
+fn is_inside(nodes: &[i64], n: usize, edges: &[i64], count: usize, s: Sides, i: usize) -> bool
     requires { ShareableFace nodes.now n edges.now count s × (i < count) }
-    ensures { result ≡ mark_of edges.now count s.ring
+    ensures { result ≡ ring_encloses edges.now count s.ring
         (start_of nodes.now n (edge_at edges.now i)) }
 {
-    let found = tables::find_row(
-        nodes,
-        map::NODE_WIDTH,
-        n,
-        edges[i * map::EDGE_WIDTH + map::START],
-    );
-    let Found::At(k) = found else {
-        return 2;
+    let start = edges[i * map::EDGE_WIDTH + map::START];
+    let Some(k) = tables::find_row(nodes, map::NODE_WIDTH, n, start) else {
+        return false;
     };
-    if rings::encloses(edges, count, s.ring, map_rows::node_point(nodes, k)) {
-        1
-    } else {
-        2
-    }
+    rings::encloses(edges, count, s.ring, map_rows::node_point(nodes, k))
 }
 
 // Marks the rings of the old face that are not marked by their sides.
@@ -85,17 +91,10 @@ fn mark_sides(nodes: &[i64], n: usize, edges: &[i64], count: usize, s: Sides, ma
 {
     for p in 0..count * 2 {
         if (darts::dart_cell(edges, p, map::LEFT) == s.old) & (marks[p] == 0) {
-            let side = mark_of_ring(nodes, n, edges, count, s, p / 2);
-            rings::mark_ring(edges, count, p, side, marks);
+            let mark = mark_of(is_inside(nodes, n, edges, count, s, p / 2));
+            rings::mark_ring(edges, count, p, mark, marks);
         }
     }
-}
-
-// The number of a marked side.
-fn number_of(s: Sides, mark: u16) -> i64
-    ensures { result ≡ cond (same mark 1) s.inside s.other }
-{
-    if mark == 1 { s.inside } else { s.other }
 }
 
 // Writes the number of their side to the directed edges of the old face.
@@ -105,7 +104,7 @@ fn write_sides(edges: &mut [i64], count: usize, s: Sides, marks: &[u16])
 {
     for p in 0..count * 2 {
         if darts::dart_cell(edges, p, map::LEFT) == s.old {
-            darts::set_dart_cell(edges, p, map::LEFT, number_of(s, marks[p]));
+            darts::set_dart_cell(edges, p, map::LEFT, s.number(marks[p] == INSIDE));
         }
     }
 }
@@ -125,8 +124,8 @@ pub fn share_edges(
         edges.old 0 (count * 2) }
 {
     let mut marks = [0u16; map::DARTS];
-    rings::mark_ring(edges, count, across, 2, &mut marks);
-    rings::mark_ring(edges, count, s.ring, 1, &mut marks);
+    rings::mark_ring(edges, count, across, OTHER, &mut marks);
+    rings::mark_ring(edges, count, s.ring, INSIDE, &mut marks);
     mark_sides(nodes, n, edges, count, s, &mut marks);
     write_sides(edges, count, s, &marks);
 }

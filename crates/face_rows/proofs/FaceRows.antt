@@ -1,4 +1,5 @@
 -- The face table after a face is removed or pushed. Assumes nothing.
+use Rattle.std.specs.Prelude.{Some, None}
 use mathlib.Core.Path.{◌≡◌, refl, sym, ap, ◌∙◌, subst}
 use mathlib.Core.Bool.{Bool, true, false, not, true≢false}
 use mathlib.Core.Logic.{inl, inr}
@@ -13,7 +14,6 @@ use Rattle.lists.specs.Tests.{same}
 use Rattle.lists.specs.Scans.{any_of, all_of}
 use Rattle.lists.specs.Members.{Distinct}
 use Rattle.lists.specs.Tables.{place}
-use Rattle.lists.specs.declared.Found.TheVariants.{At, Missing}
 use Rattle.lists.proofs.Bools.{which, same_true, same_eq, same_false, differ}
 use Rattle.lists.proofs.Keeps.{keep_all}
 use Rattle.tables.specs.Tables.{same_z, column, closed, rows, numbered}
@@ -147,7 +147,7 @@ module _ {box : ℕ → Extent} {l : List ℤ} (n : ℕ) (t : FaceTable (length 
 
   module _ (f : ℕ) where
     -- the row that was found goes
-    pub found_gone : (i : ℕ) → place (same_z (pos f)) 0 (column face_width l n) ≡ At i → (i < n)
+    pub found_gone : (i : ℕ) → place (same_z (pos f)) 0 (column face_width l n) ≡ Some i → (i < n)
         × FaceTable (length l) box (without_face f (faces_of l n)) (closed face_width l n i)
     found_gone i e =
         let r = face_found l n face_rows_lem.ranges (pos f) i e in
@@ -167,7 +167,7 @@ module _ {box : ℕ → Extent} {l : List ℤ} (n : ℕ) (t : FaceTable (length 
         )
 
     -- no row is found, and none goes
-    pub missing_gone : place (same_z (pos f)) 0 (column face_width l n) ≡ Missing
+    pub missing_gone : place (same_z (pos f)) 0 (column face_width l n) ≡ None
         → FaceTable (length l) box (without_face f (faces_of l n)) l
     missing_gone e = subst (λ (gs : List ℕ). FaceTable (length l) box gs l)
         (sym (keep_all (λ g. not (same g f)) fs (any_none f fs (face_missing l n face_rows_lem.ranges f e)))) t

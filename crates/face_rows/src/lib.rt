@@ -24,9 +24,8 @@ ghost use Rattle.face_rows.specs.Holds.{RowsHealable, Splittable, Healable, Tabl
 ghost use Rattle.face_rows.specs.Holds.{split_faces, heal_faces, sides_alone, face_kept, merged_sides};
 
 use face_relabel::Sides;
-use lists::Found;
 use map::{Counts, Head, Variant};
-use outcomes::Done;
+use outcomes::Carried;
 
 // ---- leaves
 
@@ -35,14 +34,7 @@ fn face_goes(how: Variant, old: i64) -> bool
     requires { old ≡ pos (nat_abs old) }
     ensures { result ≡ (is_new how && not (same (nat_abs old) 0)) }
 {
-    outcomes::is_new(how) & (old != 0)
-}
-
-// One of two numbers.
-fn select(first: bool, a: i64, b: i64) -> i64
-    ensures { result ≡ cond first a b }
-{
-    if first { a } else { b }
+    (how == Variant::New) & (old != 0)
 }
 
 // The head with a face more, and one or two numbers given.
@@ -81,10 +73,8 @@ fn remove_face(faces: &mut [i64], count: usize, face: i64)
         → FaceTable (length faces.old) box
         (without_face (nat_abs face) (faces_of faces.old count)) faces.new }
 {
-    let found = tables::find_row(faces, map::FACE_WIDTH, count, face);
-    match found {
-        Found::At(i) => tables::remove_row(faces, map::FACE_WIDTH, count, i),
-        Found::Missing => {}
+    if let Some(i) = tables::find_row(faces, map::FACE_WIDTH, count, face) {
+        tables::remove_row(faces, map::FACE_WIDTH, count, i);
     }
 }
 
@@ -131,7 +121,7 @@ fn heal_row(faces: &mut [i64], count: usize, left: i64, right: i64, face: i64, m
         remove_face(faces, count - 1, right);
         push_face(faces, count - 2, face);
     } else {
-        remove_face(faces, count, select(left < right, right, left));
+        remove_face(faces, count, left.max(right));
     }
 }
 
@@ -148,13 +138,13 @@ fn sides_of(edges: &[i64], count: usize, old: i64, a: i64, goes: bool) -> Sides
 {
     let p = (count - 1) * 2;
     let is_left = 0 < rings::ring_area(edges, count, p);
-    let b = select(goes, a + 1, old);
-    let first = is_left | !goes;
+    let b = if goes { a + 1 } else { old };
+    let (inside, other) = if is_left | !goes { (a, b) } else { (b, a) };
     Sides {
         old,
         ring: p + !is_left as usize,
-        inside: select(first, a, b),
-        other: select(first, b, a),
+        inside,
+        other,
     }
 }
 
@@ -209,7 +199,7 @@ fn face_left(next: i64, left: i64, right: i64, makes: bool) -> i64
     requires { (next ≡ pos (nat_abs next)) × (left ≡ pos (nat_abs left)) × (right ≡ pos (nat_abs right)) }
     ensures { result ≡ pos (cond makes (nat_abs next) (min (nat_abs left) (nat_abs right))) }
 {
-    select(makes, next, select(left < right, left, right))
+    if makes { next } else { left.min(right) }
 }
 
 // `face` for left and right in all rows of nodes and edges.
@@ -245,7 +235,7 @@ pub fn heal_faces(
     left: i64,
     right: i64,
     makes: bool,
-) -> Done
+) -> Carried
     requires { Healable nodes.old edges.old faces.old h left right }
     ensures { ((box : ℕ → Extent) → Unboxed box (nat_abs h.next_face)
         → FaceTable (length faces.old) box (faces_of faces.old (nat_abs h.faces))
@@ -254,13 +244,15 @@ pub fn heal_faces(
         (merged_sides makes (sides_alone (nat_abs left) (nat_abs right))
         (map_of (lent_now nodes.old edges.old faces.old h)))
         nodes.new edges.new faces.new result.head)
-        × (result.answer.refusal ≡ 0)
-        × (result.answer.value ≡ pos (face_kept makes (sides_alone (nat_abs left) (nat_abs right))
+        × (result.value ≡ pos (face_kept makes (sides_alone (nat_abs left) (nat_abs right))
         (map_of (lent_now nodes.old edges.old faces.old h)))) }
 {
     let n = head::counts_of(h);
     let face = face_left(h.next_face, left, right, makes);
     rename_faces(nodes, n.nodes, edges, n.edges, left, right, face);
     heal_row(faces, n.faces, left, right, face, makes);
-    outcomes::carried(without_face(h, makes), face)
+    Carried {
+        head: without_face(h, makes),
+        value: face,
+    }
 }

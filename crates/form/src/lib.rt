@@ -1,4 +1,4 @@
-// Condition 2: tables in form.
+// Conditions 1 and 2: tables that are whole, and in form.
 #![tactic(auto)]
 
 ghost use Rattle.std.specs.Prelude.{◌≡◌, true, ◌&&◌, ◌≤◌};
@@ -7,11 +7,14 @@ ghost use Rattle.tables.specs.Tables.{rows};
 ghost use Rattle.map.specs.Limits.{max_nodes, max_edges, max_faces, face_width};
 ghost use Rattle.map.specs.Rows.{whole, rectangle};
 ghost use Rattle.map.specs.Form.{formed, has_box, in_form};
+ghost use Rattle.map.specs.Reasons.{first_reason};
+ghost use Rattle.map.specs.Refusals.{refusal_of};
+ghost use Rattle.map.specs.Ticket.{lent_reasons};
 ghost use Rattle.map.specs.Loans.{lent_now};
 ghost use Rattle.map_rows.specs.Rows.{edges_of};
 ghost use Rattle.form_ranges.specs.Ranges.{map_in, InRanges};
 
-use map::{Counts, Head};
+use map::{Counts, Head, Refusal};
 
 // Whether tables in range are in form.
 fn is_formed(nodes: &[i64], edges: &[i64], faces: &[i64], c: Counts, h: Head) -> bool
@@ -47,17 +50,23 @@ pub fn in_form(nodes: &[i64], edges: &[i64], faces: &[i64], h: Head) -> bool
     requires { whole (lent_now nodes.now edges.now faces.now h) ≡ true }
     ensures { result ≡ in_form (lent_now nodes.now edges.now faces.now h) }
 {
-    if !form_ranges::head_fits(
-        h,
-        nodes.len() / map::NODE_WIDTH,
-        edges.len() / map::EDGE_WIDTH,
-        faces.len() / map::FACE_WIDTH,
-    ) {
+    if !form_ranges::head_fits(h, head::sizes_of(nodes, edges, faces)) {
         return false;
     }
     let c = head::counts_of(h);
-    if !form_ranges::is_ranged(nodes, edges, faces, c, h.points) {
-        return false;
+    form_ranges::is_ranged(nodes, edges, faces, c, h.points) && is_formed(nodes, edges, faces, c, h)
+}
+
+// The lending program's reasons, 1 and 2, which every call but creation looks at first.
+pub fn check_lent(nodes: &[i64], edges: &[i64], faces: &[i64], h: Head) -> Result<(), Refusal>
+    ensures { refusal_of result
+        ≡ first_reason (lent_reasons (lent_now nodes.now edges.now faces.now h)) }
+{
+    if !form_ranges::is_whole(nodes, edges, faces) {
+        return Err(Refusal::NotWhole);
     }
-    is_formed(nodes, edges, faces, c, h)
+    if !in_form(nodes, edges, faces, h) {
+        return Err(Refusal::NotInForm);
+    }
+    Ok(())
 }

@@ -1,5 +1,6 @@
 -- The row that a directed edge names in a table whose first column rises: it is row i exactly where the cell is the
 -- number of row i. Assumes nothing.
+use Rattle.std.specs.Prelude.{Some}
 use mathlib.Core.Path.{◌≡◌, sym, ap, ◌∙◌}
 use mathlib.Core.Logic.{inl, inr}
 use mathlib.Core.List.{List}
@@ -7,7 +8,6 @@ use Prim.Native.Nat.{ℕ, ◌*◌, ◌<◌}
 use lib.IntN.{ℤ, pos}
 use lib.ListN.{get_or}
 use Rattle.lists.specs.Tests.{same}
-use Rattle.lists.specs.declared.Found.TheVariants.{At}
 use Rattle.lists.proofs.Bools.{same_eq, same_false, equal?}
 use Rattle.tables.specs.Tables.{same_z, Rising}
 use Rattle.tables.proofs.Order.{is_same, not_same}
@@ -26,7 +26,7 @@ module _ {w : ℕ} {t : List ℤ} {n : ℕ} (rising : Rising w t n) (l : List �
         | inr d ↦
             same_false (get_or rows p 0) i d
             ∙ sym (not_same (side_cell l p k) z
-            (λ e. let f : At (get_or rows p 0) ≡ At i = row_met rising (get_or rows p 0) own.0 (own.1 ∙ e)
+            (λ e. let f : Some (get_or rows p 0) ≡ Some i = row_met rising (get_or rows p 0) own.0 (own.1 ∙ e)
             ∙ row_place w t n rising i below in d (cc)))
       ]
 

@@ -2,3 +2,4 @@
 -- definitions by these parts.
 pub mod Columns
 pub mod Parts
+pub mod Chains

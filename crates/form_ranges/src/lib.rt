@@ -4,11 +4,11 @@
 ghost use Rattle.std.specs.Prelude.{◌≡◌, true, false, ◌&&◌, [], ◌∷◌, ◌+◌, ◌*◌, ◌≤◌, ◌<◌, pos, length, get_or, take, drop};
 ghost use Rattle.std.specs.Int.Signed.{le_z, non_neg};
 ghost use Rattle.lists.specs.Scans.{all_of};
-ghost use Rattle.tables.specs.Tables.{cell, rows, is_zero};
+ghost use Rattle.tables.specs.Tables.{cell, rows, is_zero, within};
 ghost use Rattle.curves.specs.Curves.{coordinate, max_points};
 ghost use Rattle.map.specs.Limits.{max_nodes, max_edges, max_faces, node_width, edge_width, face_width};
 ghost use Rattle.map.specs.Limits.{most_points, is_record, limit_of};
-ghost use Rattle.map.specs.Rows.{Lent, whole, counts};
+ghost use Rattle.map.specs.Rows.{Lent, whole};
 ghost use Rattle.map.specs.Form.{counts_fit, nexts_fit, node_ranges, edge_ranges_to, face_ranges, numbers};
 ghost use Rattle.map.specs.Loans.{lent_now};
 ghost use Rattle.head.specs.Heads.{sizes_in};
@@ -23,32 +23,40 @@ pub fn is_whole(nodes: &[i64], edges: &[i64], faces: &[i64]) -> bool
     ensures { (h : _) → result ≡ whole (lent_now nodes.now edges.now faces.now h) }
 {
     tables::whole_rows(nodes, map::NODE_WIDTH, 0, Map::NODES)
-        & tables::whole_rows(edges, map::EDGE_WIDTH, 0, Map::EDGES)
-        & tables::whole_rows(faces, map::FACE_WIDTH, 1, Map::FACES)
+        && tables::whole_rows(edges, map::EDGE_WIDTH, 0, Map::EDGES)
+        && tables::whole_rows(faces, map::FACE_WIDTH, 1, Map::FACES)
 }
 
 // ---- 2: numbers as they stand
 
-fn within(z: i64, a: i64, b: i64) -> bool
-    ensures { result ≡ (le_z a z && le_z z b) }
+// Counts within the tables.
+fn counts_fit(h: Head, sizes: Counts) -> bool
+    requires { (sizes.nodes ≤ max_nodes) × (sizes.edges ≤ max_edges) × (sizes.faces ≤ max_faces) }
+    ensures { result ≡ (within 0 sizes.nodes h.nodes && within 0 sizes.edges h.edges
+        && within 1 sizes.faces h.faces) }
 {
-    (a <= z) & (z <= b)
+    (0..=sizes.nodes as i64).contains(&h.nodes)
+        & (0..=sizes.edges as i64).contains(&h.edges)
+        & (1..=sizes.faces as i64).contains(&h.faces)
+}
+
+// Next numbers 1 to 1,000,000.
+fn nexts_fit(h: Head) -> bool
+    ensures { result ≡ nexts_fit h }
+{
+    (1..=map::LAST_NEXT).contains(&h.next_node)
+        & (1..=map::LAST_NEXT).contains(&h.next_edge)
+        & (1..=map::LAST_NEXT).contains(&h.next_face)
 }
 
 // Counts within the tables, next numbers 1 to 1,000,000, and 6 or 12 recorded.
-pub fn head_fits(h: Head, nodes: usize, edges: usize, faces: usize) -> bool
-    requires { (nodes ≤ max_nodes) × (edges ≤ max_edges) × (faces ≤ max_faces) }
-    ensures { (l : Lent) → sizes_in l.nodes l.edges l.faces ≡ counts nodes edges faces
+pub fn head_fits(h: Head, sizes: Counts) -> bool
+    requires { (sizes.nodes ≤ max_nodes) × (sizes.edges ≤ max_edges) × (sizes.faces ≤ max_faces) }
+    ensures { (l : Lent) → sizes_in l.nodes l.edges l.faces ≡ sizes
         → result ≡ (counts_fit (record { nodes = l.nodes; edges = l.edges; faces = l.faces; head = h }) && nexts_fit h
         && is_record h.points) }
 {
-    let counts = within(h.nodes, 0, nodes as i64)
-        & within(h.edges, 0, edges as i64)
-        & within(h.faces, 1, faces as i64);
-    let nexts = within(h.next_node, 1, map::LAST_NEXT)
-        & within(h.next_edge, 1, map::LAST_NEXT)
-        & within(h.next_face, 1, map::LAST_NEXT);
-    counts & nexts & head::is_record(h.points)
+    counts_fit(h, sizes) & nexts_fit(h) & head::is_record(h.points)
 }
 
 // Number k is not negative.
@@ -56,23 +64,21 @@ fn is_natural(t: &[i64], k: usize) -> bool
     requires { k < length t.now }
     ensures { result ≡ non_neg (get_or t.now k (pos 0)) }
 {
-    let z = t[k];
-    0 <= z
+    0 <= t[k]
 }
 
 fn is_coordinate(t: &[i64], k: usize) -> bool
     requires { k < length t.now }
     ensures { result ≡ coordinate (get_or t.now k (pos 0)) }
 {
-    let z = t[k];
-    within(z, 0, Map::COORDINATE)
+    (0..=Map::COORDINATE).contains(&t[k])
 }
 
 fn are_coordinates(t: &[i64]) -> bool
     ensures { result ≡ all_of coordinate t.now }
 {
-    for i in 0..t.len() {
-        if !is_coordinate(t, i) {
+    for z in t {
+        if !(0..=Map::COORDINATE).contains(z) {
             return false;
         }
     }
@@ -83,8 +89,10 @@ fn node_ranges(row: &[i64]) -> bool
     requires { length row.now ≡ node_width }
     ensures { result ≡ node_ranges row.now }
 {
-    let z = row[map::NODE_FACE];
-    is_natural(row, 0) & is_coordinate(row, map::X) & is_coordinate(row, map::Y) & (-1 <= z)
+    is_natural(row, 0)
+        & is_coordinate(row, map::X)
+        & is_coordinate(row, map::Y)
+        & (-1 <= row[map::NODE_FACE])
 }
 
 fn nodes_ranged(nodes: &[i64], n: usize) -> bool
@@ -129,8 +137,7 @@ fn edge_ranges(row: &[i64], points: i64) -> bool
     requires { (length row.now ≡ edge_width) × (is_record points ≡ true) }
     ensures { result ≡ edge_ranges_to (most_points (limit_of points)) row.now }
 {
-    let z = row[map::POINT_COUNT];
-    if !(edge_naturals(row) & within(z, 2, points)) {
+    if !(edge_naturals(row) & (2..=points).contains(&row[map::POINT_COUNT])) {
         return false;
     }
     let n = tables::natural(row, map::POINT_COUNT);
@@ -192,30 +199,11 @@ pub fn numbers_fit(nodes: &[i64], edges: &[i64], faces: &[i64], c: Counts, h: He
     requires { InRanges nodes.now edges.now faces.now c h }
     ensures { result ≡ numbers (map_in nodes.now edges.now faces.now c h) }
 {
-    if !tables::numbers_rise(
-        nodes,
-        map::NODE_WIDTH,
-        c.nodes,
-        1,
-        head::to_usize(h.next_node),
-    ) {
-        return false;
-    }
-    if !tables::numbers_rise(
-        edges,
-        map::EDGE_WIDTH,
-        c.edges,
-        1,
-        head::to_usize(h.next_edge),
-    ) {
-        return false;
-    }
-    let first = tables::natural(faces, 0);
-    tables::numbers_rise(
-        faces,
-        map::FACE_WIDTH,
-        c.faces,
-        0,
-        head::to_usize(h.next_face),
-    ) & (first == 0)
+    let next_node = head::to_usize(h.next_node);
+    let next_edge = head::to_usize(h.next_edge);
+    let next_face = head::to_usize(h.next_face);
+    tables::numbers_rise(nodes, map::NODE_WIDTH, c.nodes, 1, next_node)
+        && tables::numbers_rise(edges, map::EDGE_WIDTH, c.edges, 1, next_edge)
+        && tables::numbers_rise(faces, map::FACE_WIDTH, c.faces, 0, next_face)
+        && tables::natural(faces, 0) == 0
 }

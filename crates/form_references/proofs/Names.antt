@@ -1,22 +1,21 @@
 -- Named rows: a search of the first column tells whether the map has the row. Containing faces, edges of links, ends of
 -- curves. Assumes nothing.
+use Rattle.std.specs.Prelude.{Some, None}
 use mathlib.Core.Path.{◌≡◌, refl, sym, ap, ◌∙◌, subst}
 use mathlib.Core.Bool.{Bool, true, false, true≢false}
 use mathlib.Core.Logic.{inl, inr}
 use mathlib.Core.List.{List}
 use Prim.Native.Nat.{ℕ, suc, ◌+◌, ◌*◌, ◌/◌, ◌≤◌, ◌<◌}
-use native.Mathlib.Nat.{zero-add}
 use native.Mathlib.Omega.{arith}
-use lib.IntN.{ℤ, pos, negsuc, nat_abs, ◌-ℤ◌}
+use lib.IntN.{ℤ, pos, negsuc, nat_abs}
 use lib.ListN.{length, get_or, set}
 use lib.Seq.{get_or-set_same, get_or-set_other}
 use lib.Signed.{lt_z}
 use borrow.Author.Count.{below_more}
-use borrow.Author.Tests.{ltb-true, ltb-false}
+use borrow.Author.Tests.{ltb-true}
 pub use Rattle.integers.specs.Signs.{not_negative}
 use Rattle.lists.specs.Scans.{any_of, is_some}
 use Rattle.lists.specs.Tables.{table, place}
-use Rattle.lists.specs.declared.Found.TheVariants.{At, Missing}
 use Rattle.tables.specs.Tables.{same_z, column, Rising, numbered}
 use Rattle.tables.proofs.Order.{same_is}
 use Rattle.tables.proofs.Rows.{number_in}
@@ -33,21 +32,21 @@ use Rattle.form_ranges.specs.Ranges.{face_map, EdgesInOrder}
 use Rattle.form_references.specs.Sides.{has_row}
 
 module _ {A : Type 0} (p : A → Bool) (f : ℕ → A) (n : ℕ) where
-  pub any_at : (i : ℕ) → place p 0 (table f 0 n) ≡ At i → any_of p (table f 0 n) ≡ true
+  pub any_at : (i : ℕ) → place p 0 (table f 0 n) ≡ Some i → any_of p (table f 0 n) ≡ true
   any_at i e = any_find p (table f 0 n) ∙ ap is_some (place_first p f n i e).found
 
-  pub any_missing : place p 0 (table f 0 n) ≡ Missing → any_of p (table f 0 n) ≡ false
+  pub any_missing : place p 0 (table f 0 n) ≡ None → any_of p (table f 0 n) ≡ false
   any_missing e = any_find p (table f 0 n) ∙ ap is_some (place_missing p f n e)
 
 module _ (w : ℕ) (l : List ℤ) (n : ℕ) (z : ℤ) where
-  pub column_at : (i : ℕ) → place (same_z z) 0 (column w l n) ≡ At i → any_of (same_z z) (column w l n) ≡ true
+  pub column_at : (i : ℕ) → place (same_z z) 0 (column w l n) ≡ Some i → any_of (same_z z) (column w l n) ≡ true
   column_at = any_at (same_z z) (λ i. get_or l (i * w) (pos 0)) n
 
-  pub column_missing : place (same_z z) 0 (column w l n) ≡ Missing → any_of (same_z z) (column w l n) ≡ false
+  pub column_missing : place (same_z z) 0 (column w l n) ≡ None → any_of (same_z z) (column w l n) ≡ false
   column_missing = any_missing (same_z z) (λ i. get_or l (i * w) (pos 0)) n
 
   -- the row that is found has the number
-  pub found_row : (i : ℕ) → place (same_z z) 0 (column w l n) ≡ At i → (i < n) × (get_or l (i * w) (pos 0) ≡ z)
+  pub found_row : (i : ℕ) → place (same_z z) 0 (column w l n) ≡ Some i → (i < n) × (get_or l (i * w) (pos 0) ≡ z)
       × (has_row w l n z ≡ true)
   found_row i e =
       let f = place_first (same_z z) (λ i. get_or l (i * w) (pos 0)) n i e in
@@ -87,7 +86,7 @@ module _ {l : List ℤ} {n : ℕ} where
             (edge_missing l n r.ranges m e)
       ]
     where
-      past : (i : ℕ) → place (same_z (pos m)) 0 (column 32 l n) ≡ At i → ⊥
+      past : (i : ℕ) → place (same_z (pos m)) 0 (column 32 l n) ≡ Some i → ⊥
       past i e =
           let q = edge_found l n r.ranges (pos m) i e in
           let s = (number_in 1 (suc last_number) (λ k. (edge_at l k).number) n
@@ -108,20 +107,7 @@ module _ (m : Map) where
 
 -- ---- the edge of a link
 
-pub turned : (d : ℤ) → lt_z d (pos 0) ≡ true → pos 0 -ℤ d ≡ pos (nat_abs d)
-turned (pos n) h = absurd (let t = ltb-true n 0 h in omega arith)
-turned (negsuc n) h = ap pos (zero-add (suc n))
-
-pub kept : (d : ℤ) → lt_z d (pos 0) ≡ false → d ≡ pos (nat_abs d)
-kept (pos n) h = refl
-kept (negsuc n) h = absurd (true≢false h)
-
--- a link from -999,999 on has an edge number
-pub edge-most : (d : ℤ) → lt_z d (pos 0) ≡ true → lt_z d (negsuc 999998) ≡ false → nat_abs d ≤ last_number
-edge-most (pos n) g h = absurd (let t = ltb-true n 0 g in omega arith)
-edge-most (negsuc n) g h = let t = ltb-false 999998 n h in omega arith
-
--- one below it has none
+-- one below -999,999 has no edge number
 pub edge_more : (d : ℤ) → lt_z d (negsuc 999998) ≡ true → suc last_number ≤ nat_abs d
 edge_more (pos n) h = absurd (true≢false (sym h))
 edge_more (negsuc n) h = let t = ltb-true 999998 n h in omega arith

@@ -1,4 +1,5 @@
 -- The position that a link names, and the point of a node's row. Assumes nothing.
+use Rattle.std.specs.Prelude.{Some, None}
 use mathlib.Core.Path.{◌≡◌, sym, ap, ◌∙◌, subst}
 use mathlib.Core.Bool.{Bool, true, false}
 use mathlib.Core.List.{List}
@@ -14,7 +15,6 @@ use mir.Val.{bool_byte}
 use borrow.Author.Tests.{le-ltb}
 use Rattle.lists.specs.Scans.{is_some}
 use Rattle.lists.specs.Tables.{place}
-use Rattle.lists.specs.declared.Found.TheVariants.{At, Missing}
 use Rattle.lists.proofs.Counts.{byte_bit, bit-most}
 use Rattle.tables.specs.Tables.{same_z, column}
 use Rattle.tables.proofs.Lookups.{row_met}
@@ -31,19 +31,19 @@ use Rattle.form_references.specs.Sides.{has_link}
 
 -- ---- the position that a link names
 
-pub missing_at : {q : ℕ} → Missing ≡ At q → ⊥
+pub missing_at : {q : ℕ} → None ≡ Some q → ⊥
 missing_at e = let z : ◌≡◌ {A = ℕ} 0 1 = cc in omega arith
 
 module _ {l : List ℤ} {n : ℕ} (r : EdgesInOrder l n) where
-  pub link_missing : (d : ℤ) → place (same_z (pos (nat_abs d))) 0 (column edge_width l n) ≡ Missing
+  pub link_missing : (d : ℤ) → place (same_z (pos (nat_abs d))) 0 (column edge_width l n) ≡ None
       → has_link l n d ≡ false
   link_missing d e = ap is_some (edge_missing l n r.ranges (nat_abs d) e)
 
   -- the edge of d stands in row i
-  pub link_below : (d : ℤ) (i : ℕ) → place (same_z (pos (nat_abs d))) 0 (column edge_width l n) ≡ At i → i < n
+  pub link_below : (d : ℤ) (i : ℕ) → place (same_z (pos (nat_abs d))) 0 (column edge_width l n) ≡ Some i → i < n
   link_below d i e = (edge_found l n r.ranges (pos (nat_abs d)) i e).0
 
-  link_dart : (d : ℤ) (i : ℕ) → place (same_z (pos (nat_abs d))) 0 (column edge_width l n) ≡ At i
+  link_dart : (d : ℤ) (i : ℕ) → place (same_z (pos (nat_abs d))) 0 (column edge_width l n) ≡ Some i
       → dart_at l (i * 2 + bool_byte (lt_z d (pos 0))) ≡ dart_of d
   link_dart (pos m) i e =
       let f = edge_found l n r.ranges (pos m) i e in
@@ -55,7 +55,7 @@ module _ {l : List ℤ} {n : ℕ} (r : EdgesInOrder l n) where
       subst (λ (k : ℕ). dart_at l (i * 2 + 1) ≡ record { edge = k; back = true }) (sym (ap nat_abs f.1)) (dart_odd l i)
 
   pub link_at : (d : ℤ) (i : ℕ) (b : Bool) → b ≡ lt_z d (pos 0)
-      → place (same_z (pos (nat_abs d))) 0 (column edge_width l n) ≡ At i → (q : ℕ) → At (i * 2 + bool_byte b) ≡ At q
+      → place (same_z (pos (nat_abs d))) 0 (column edge_width l n) ≡ Some i → (q : ℕ) → Some (i * 2 + bool_byte b) ≡ Some q
       → (q < n * 2) × (dart_at l q ≡ dart_of d) × (has_link l n d ≡ true)
   link_at d i b f e q g =
       let h : i * 2 + bool_byte b ≡ q = cc in (

@@ -5,7 +5,6 @@
 ghost use Rattle.std.specs.Prelude.{◌≡◌, true, false, ◌&&◌, ℕ, ◌+◌, ◌*◌, ◌/◌, ◌≤◌, ◌<◌, pos, negsuc, nat_abs, length};
 ghost use Rattle.std.specs.Int.Signed.{lt_z};
 ghost use Rattle.lists.specs.Scans.{all_of};
-ghost use Rattle.lists.specs.declared.Found.TheVariants.{At, Missing};
 ghost use Rattle.tables.specs.Tables.{Rising};
 ghost use Rattle.plane.specs.Points.{same_point};
 ghost use Rattle.curves.specs.Curves.{Run, curve_of, last_point};
@@ -18,7 +17,6 @@ ghost use Rattle.darts.specs.Positions.{dart_at, side_cell, RowsNamed, NextsName
 ghost use Rattle.form_ranges.specs.Ranges.{map_in, face_map, EdgesInOrder, InOrder};
 ghost use Rattle.form_references.specs.Sides.{has_row, has_link, all_sides};
 
-use lists::Found;
 use map::Counts;
 use plane::Point;
 
@@ -29,11 +27,7 @@ fn exists(t: &[i64], w: usize, count: usize, number: i64, index: &[u16]) -> bool
     requires { Rising w t.now count × (length index.now ≡ 4096) }
     ensures { result ≡ has_row w t.now count number }
 {
-    let found = tables::find_indexed(t, w, count, number, index);
-    match found {
-        Found::At(i) => true,
-        Found::Missing => false,
-    }
+    tables::find_indexed(t, w, count, number, index).is_some()
 }
 
 // Whether the containing face of a node exists, where there is one.
@@ -42,10 +36,7 @@ fn node_names(row: &[i64], faces: &[i64], n: usize, index: &[u16]) -> bool
     ensures { result ≡ in_face (face_map faces.now n) (node_of row.now).face }
 {
     let z = row[map::NODE_FACE];
-    if z < 0 {
-        return true;
-    }
-    exists(faces, map::FACE_WIDTH, n, z, index)
+    z < 0 || exists(faces, map::FACE_WIDTH, n, z, index)
 }
 
 // Whether the containing faces of all nodes exist.
@@ -82,8 +73,8 @@ fn find_row_of(
         × (result ≡ true → RowsNamed w t.now n edges.now k rows.old p
         → RowsNamed w t.now n edges.now k rows.new (p + 1)) }
 {
-    let found = tables::find_indexed(t, w, n, darts::dart_cell(edges, p, k), index);
-    let Found::At(x) = found else {
+    let number = darts::dart_cell(edges, p, k);
+    let Some(x) = tables::find_indexed(t, w, n, number, index) else {
         return false;
     };
     rows[p] = x as u16;
@@ -120,33 +111,19 @@ pub fn find_rows(
     true
 }
 
-// The edge of a directed edge.
-fn edge_of(d: i64) -> i64
-    requires { lt_z d (negsuc 999998) ≡ false }
-    ensures { result ≡ pos (nat_abs d) }
-{
-    if d < 0 {
-        return -d;
-    }
-    d
-}
-
 // The position of the directed edge that a link names: found, or missing.
-fn find_position(edges: &[i64], count: usize, d: i64, index: &[u16]) -> Found
+fn find_position(edges: &[i64], count: usize, d: i64, index: &[u16]) -> Option<usize>
     requires { EdgesInOrder edges.now count × (length index.now ≡ 4096) }
-    ensures { (result ≡ Missing → has_link edges.now count d ≡ false)
-        × ((q : ℕ) → result ≡ At q
+    ensures { (result ≡ None → has_link edges.now count d ≡ false)
+        × ((q : ℕ) → result ≡ Some q
         → (q < count * 2) × (dart_at edges.now q ≡ dart_of d)
         × (has_link edges.now count d ≡ true)) }
 {
     if d < map::LEAST_LINK {
-        return Found::Missing;
+        return None;
     }
-    let found = tables::find_indexed(edges, map::EDGE_WIDTH, count, edge_of(d), index);
-    let Found::At(i) = found else {
-        return Found::Missing;
-    };
-    Found::At(i * 2 + (d < 0) as usize)
+    let i = tables::find_indexed(edges, map::EDGE_WIDTH, count, d.abs(), index)?;
+    Some(i * 2 + usize::from(d < 0))
 }
 
 // Whether the edge exists that the link of the directed edge at position p names; the position of its next is written.
@@ -158,13 +135,8 @@ fn find_next_of(edges: &[i64], count: usize, p: usize, index: &[u16], nexts: &mu
         × (result ≡ true → NextsNamed edges.now count nexts.old p
         → NextsNamed edges.now count nexts.new (p + 1)) }
 {
-    let found = find_position(
-        edges,
-        count,
-        darts::dart_cell(edges, p, map::NEXT_LEFT),
-        index,
-    );
-    let Found::At(x) = found else {
+    let link = darts::dart_cell(edges, p, map::NEXT_LEFT);
+    let Some(x) = find_position(edges, count, link, index) else {
         return false;
     };
     nexts[p] = x as u16;
@@ -260,8 +232,8 @@ fn runs_between(c: &[i64], k: usize, u: Point, v: Point) -> bool
         && same_point (last_point (curve_of c.now)) v
         && neighbours_differ (curve_of c.now)) }
 {
-    let first = plane::same_point(curves::point_at(c, 0), u);
-    let last = plane::same_point(curves::point_at(c, k - 1), v);
+    let first = curves::point_at(c, 0) == u;
+    let last = curves::point_at(c, k - 1) == v;
     first & last & curves::neighbours_differ(c)
 }
 

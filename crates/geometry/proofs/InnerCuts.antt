@@ -1,5 +1,6 @@
 -- The cut at the first place inside the ends: two curves of two points or more, which one after the other draw the
 -- curve, and whose only new point is the joint. Assumes nothing.
+use Rattle.std.specs.Prelude.{Option, Some as At, None}
 use mathlib.Core.Path.{◌≡◌, refl, sym, ap, ◌∙◌, subst}
 use mathlib.Core.Bool.{Bool, true, false, cond, not, ◌&&◌, true≢false, false≢true}
 use mathlib.Core.List.Memᴰ
@@ -10,8 +11,6 @@ use native.Mathlib.Nat.{add-zero, zero-add}
 use native.Mathlib.Omega.{arith}
 use borrow.Author.Tests.{not-true}
 use lib.ListN.{length, length-append}
-use Rattle.lists.specs.declared.Found.{Found}
-use Rattle.lists.specs.declared.Found.TheVariants.{At, Missing}
 use Rattle.lists.proofs.Bools.{and-true, and_is, &&-false}
 use Rattle.plane.specs.declared.Point.{Point}
 use Rattle.plane.specs.Points.{same_point}
@@ -106,7 +105,7 @@ passed starts m a b c r n h e = true≢false (sym here ∙ h)
     here : inside starts m a b (c ∷ r) ≡ true
     here = and_is (and_is on (ap (λ (t : Bool). not (starts && t)) off ∙ ap not (&&-false starts))) refl
 
-never : {A : Type 0} (n : ℕ) → Missing ≡ At n → A
+never : {A : Type 0} (n : ℕ) → None ≡ At n → A
 never n e = let z : ◌≡◌ {A = ℕ} 0 1 = cc in absurd (omega arith)
 
 inside-cut : (starts : Bool) (k : ℕ) (m a : Point) (r : List Point) → (starts ≡ false → a ≢ m) → Differ a r → (n : ℕ)
@@ -150,7 +149,7 @@ module _ (c : Curve) (m : Point) (n : ℕ) (differ : neighbours_differ c ≡ tru
   halves = cut_found (inner_place c m) m c
 
   parts : Parts m c.first c.rest halves
-  parts = subst (λ (o : Found). Parts m c.first c.rest (cut_found o m c)) (sym found) here
+  parts = subst (λ (o : Option ℕ). Parts m c.first c.rest (cut_found o m c)) (sym found) here
 
   both : Differ c.first (halves.front ++ halves.back)
   both = parts.place.alike.differ apart
@@ -223,8 +222,8 @@ module _ (c : Curve) (m : Point) (n : ℕ) (differ : neighbours_differ c ≡ tru
 -- ---- where m is no end of the curve, this is the cut at the first place of all
 
 -- o is the place on a ∷ r, counted from k, and h the halves there
-abbrev Answers : ℕ → Point → Point → List Point → Found → Halves → Type 0
-Answers k m a r o h = ((o ≡ Missing) × (h ≡ record { front = r; back = [] }))
+abbrev Answers : ℕ → Point → Point → List Point → Option ℕ → Halves → Type 0
+Answers k m a r o h = ((o ≡ None) × (h ≡ record { front = r; back = [] }))
     ⊎ ((n : ℕ) × (o ≡ At (k + n)) × (h ≡ cut_at n m a r))
 
 -- inside its ends is on it
@@ -252,7 +251,7 @@ cut_answers starts k m a (b ∷ r) u l =
     (cut m b r))) (sym (inside_on starts m a b r u l))
     (go (on_segment m a b) (same_point m b) refl (cut_answers false (k + 1) m b r (λ e. absurd (false≢true e)) l))
   where
-    later : Found
+    later : Option ℕ
     later = inside_from false (k + 1) m b r
 
     front_first : Halves → Halves
@@ -275,7 +274,7 @@ inner_cut c m n l = let e = go (inside_from true 0 m c.first c.rest)
       λ i. record { first = m; rest = (e i).back },
     )
   where
-    go : (o : Found) → Answers 0 m c.first c.rest o (cut m c.first c.rest)
+    go : (o : Option ℕ) → Answers 0 m c.first c.rest o (cut m c.first c.rest)
         → cut_found o m c ≡ cut m c.first c.rest
-    go o (inl h) = ap (λ (o : Found). cut_found o m c) h.0 ∙ sym h.1
-    go o (inr h) = ap (λ (o : Found). cut_found o m c) (h.1 ∙ ap At (zero-add h.0)) ∙ sym h.2
+    go o (inl h) = ap (λ (o : Option ℕ). cut_found o m c) h.0 ∙ sym h.1
+    go o (inr h) = ap (λ (o : Option ℕ). cut_found o m c) (h.1 ∙ ap At (zero-add h.0)) ∙ sym h.2

@@ -6,10 +6,11 @@ ghost use Rattle.std.specs.Int.Signed.{non_neg};
 ghost use Rattle.map.specs.Limits.{most_points, is_record, limit_of};
 ghost use Rattle.map.specs.Rows.{empty_map, head_of};
 ghost use Rattle.map.specs.Reasons.{first_reason};
+ghost use Rattle.map.specs.Refusals.{refusal_of};
 ghost use Rattle.head.specs.Heads.{UpTo, Counted, Few, Changes, counts_of, sizes_in, changed_head};
 ghost use Rattle.head.specs.Heads.{full_at, spent_at, room_at, head_in, with_counts, with_next};
 
-use map::{Counts, Head, Map};
+use map::{Counts, Head, Map, Refusal};
 
 // No row or number; a node's; an edge's; a face's; a node's and an edge's.
 pub const NONE: Counts = Counts {
@@ -160,15 +161,18 @@ pub fn is_spent(h: Head, numbers: Counts) -> bool
         | exceeds(map::NUMBERS, h.next_face, numbers.faces)
 }
 
-// Answers 20 or 21 against so many rows more and so many numbers; 0 for none.
-pub fn room_reason(sizes: Counts, h: Head, rows: Counts, numbers: Counts) -> u64
+// Tests whether so many rows more fit, and so many numbers are left.
+pub fn check_room(sizes: Counts, h: Head, rows: Counts, numbers: Counts) -> Result<(), Refusal>
     requires { Counted h × Few rows × Few numbers }
-    ensures { result ≡ first_reason (room_at sizes h rows numbers) }
+    ensures { refusal_of result ≡ first_reason (room_at sizes h rows numbers) }
 {
     if is_full(sizes, h, rows) {
-        return 20;
+        return Err(Refusal::NoRoom);
     }
-    if is_spent(h, numbers) { 21 } else { 0 }
+    if is_spent(h, numbers) {
+        return Err(Refusal::NumbersSpent);
+    }
+    Ok(())
 }
 
 // ---- the head after an edit

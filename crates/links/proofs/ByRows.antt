@@ -1,9 +1,10 @@
 -- Departures scanned row by row, an edge and then its reverse: the cells that tell the node, and one position passed.
 -- Assumes nothing.
+use Rattle.std.specs.Prelude.{IfSome}
 use mathlib.Core.Path.{◌≡◌, sym, ap, ap₂, ◌∙◌, subst}
 use mathlib.Core.Bool.{Bool, true, false, not, ◌&&◌}
 use mathlib.Core.List.{List}
-use Prim.Native.Nat.{ℕ, ◌+◌, ◌*◌, ◌/◌, ◌<◌, ◌≤◌}
+use Prim.Native.Nat.{ℕ, ◌+◌, ◌*◌, ◌/◌, ◌<◌}
 use native.Mathlib.Omega.{arith}
 use lib.IntN.{ℤ, pos}
 use lib.ListN.{get_or}
@@ -47,22 +48,21 @@ leaves_but l node a b p = leaves_node l node p && not (same p a) && not (same p 
 
 module _ (way : ℕ → Way) (v : Way) (l : List ℤ) (node : ℤ) (a b n : ℕ) where
   pub record Passed (h : Choice) (p : ℕ) : Type 0 where
-    pub all : h.all ≤ p
-    pub below : h.under ≡ true → h.below ≤ p
+    pub all : IfSome h.all (λ k. k < n)
+    pub below : IfSome h.below (λ k. k < n)
     pub rest : left way v (leaves_but l node a b) h p n ≡ left way v (leaves_but l node a b) no_choice 0 n
 
   module _ {h h' : Choice} {p : ℕ} (r : Passed h p) (t : p < n) where
     -- the choice is g after the position p
-    onward : (g : Choice) → g.all ≤ p → (g.under ≡ true → g.below ≤ p) → left way v (leaves_but l node a b) h p n
-        ≡ left way v (leaves_but l node a b) g (p + 1) n → h' ≡ g → Passed h' (p + 1)
-    onward g x y q e =
-        subst (λ (c : Choice). Passed c (p + 1)) (sym e)
-        (record { all = omega arith; below = λ u. omega (arith, y u); rest = sym q ∙ r.rest })
+    onward : (g : Choice) → IfSome g.all (λ k. k < n) → IfSome g.below (λ k. k < n)
+        → left way v (leaves_but l node a b) h p n ≡ left way v (leaves_but l node a b) g (p + 1) n → h' ≡ g
+        → Passed h' (p + 1)
+    onward g x y q e = subst (λ (c : Choice). Passed c (p + 1)) (sym e) (record { all = x; below = y; rest = sym q ∙ r.rest })
 
     pub passed-chosen : leaves_node l node p ≡ true → not (same p a) && not (same p b) ≡ true → h' ≡ chosen_of way v h p
         → Passed h' (p + 1)
     passed-chosen at but =
-        let k = chosen_has way v (λ i. i ≤ p) h p (omega arith) (λ u. r.all) r.below in
+        let k = chosen_has way v (λ i. i < n) h p t r.all r.below in
         onward (chosen_of way v h p) k.0 k.1 (scan_hit way v (leaves_but l node a b) h p n t (rw at but))
 
     passed_over : leaves_but l node a b p ≡ false → h' ≡ h → Passed h' (p + 1)

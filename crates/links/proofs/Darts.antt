@@ -1,4 +1,5 @@
 -- Directed edges as they are written, and what links and positions name. Assumes nothing.
+use Rattle.std.specs.Prelude.{Some}
 use mathlib.Core.Path.{◌≡◌, refl, sym, ap, ◌∙◌}
 use mathlib.Core.Logic.{inl, inr}
 use mathlib.Core.Bool.{Bool, true, false, cond}
@@ -9,7 +10,6 @@ use native.Mathlib.Omega.{arith}
 use lib.IntN.{ℤ, pos, neg_ℤ}
 use Rattle.lists.specs.Scans.{is_some}
 use Rattle.lists.specs.Tables.{place}
-use Rattle.lists.specs.declared.Found.TheVariants.{At}
 use Rattle.lists.proofs.Bools.{which, not-true, same_false}
 use Rattle.planar_maps.specs.Map.{Dart}
 use Rattle.planar_maps.specs.Rings.{same_dart}
@@ -76,7 +76,7 @@ module _ {l : List ℤ} {n : ℕ} (t : EdgeRows l n) where
   -- the row of an edge's number
   pub row_found_lem : (i : ℕ) → i < n → find_edge (edge_map l n) (edge_at l i).number ≡ some (edge_at l i)
   row_found_lem i h =
-      let found : place (same_z (pos (edge_at l i).number)) 0 (column edge_width l n) ≡ At i =
+      let found : place (same_z (pos (edge_at l i).number)) 0 (column edge_width l n) ≡ Some i =
       ap (λ (z : ℤ). place (same_z z) 0 (column edge_width l n)) (sym (cells_of_lem t i h).number)
       ∙ row_place edge_width l n (edge_rows_rising t) i h in
       (edge_found l n t.ranges (pos (edge_at l i).number) i found).2

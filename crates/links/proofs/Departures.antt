@@ -1,5 +1,6 @@
 -- Positions and the map: departures of a node by position are those of the map, and so is the first one met clockwise.
 -- Assumes nothing.
+use Rattle.std.specs.Prelude.{Some, None}
 use mathlib.Core.Path.{◌≡◌, sym, ap, ◌∙◌}
 use mathlib.Core.List.{List, [], ◌∷◌, map, Memᴰ}
 use Prim.Native.Nat.{ℕ, ◌*◌, ◌<◌}
@@ -7,7 +8,6 @@ use native.Mathlib.Omega.{arith}
 use lib.IntN.{ℤ, pos}
 use lib.ListN.{length, length-map}
 use Rattle.lists.specs.Tests.{same}
-use Rattle.lists.specs.declared.Found.TheVariants.{At, Missing}
 use Rattle.lists.specs.Scans.{keep, count_of}
 use Rattle.lists.proofs.Counts.{count_keep}
 use Rattle.lists.proofs.Keeps.{keep-map}
@@ -50,16 +50,16 @@ module _ {l : List ℤ} {n : ℕ} (t : EdgeRows l n) where
     ways : (p : ℕ) → Memᴰ p ds → way (edge_map l n) (dart_at l p) ≡ way_at l p
     ways p m = way_is t p (below p m)
 
-    pub met_found : (q : ℕ) → first_met (way_at l) v ds ≡ At q → (u : Dart)
+    pub met_found : (q : ℕ) → first_met (way_at l) v ds ≡ Some q → (u : Dart)
         → first_clockwise (way (edge_map l n)) v u (map (dart_at l) ds) ≡ dart_at l q
     met_found q e u = go ds ways e
       where
         go : (ds : List ℕ) → ((p : ℕ) → Memᴰ p ds → way (edge_map l n) (dart_at l p) ≡ way_at l p)
-            → first_met (way_at l) v ds ≡ At q → first_clockwise (way (edge_map l n)) v u (map (dart_at l) ds) ≡ dart_at l q
+            → first_met (way_at l) v ds ≡ Some q → first_clockwise (way (edge_map l n)) v u (map (dart_at l) ds) ≡ dart_at l q
         go [] w e = let z : ◌≡◌ {A = ℕ} 0 1 = cc in absurd (omega arith)
         go (d ∷ ds) w e = first_any (way (edge_map l n)) v (dart_at l d) (map (dart_at l) ds) u (dart_at l d)
             ∙ first_map (dart_at l) (way_at l) (way (edge_map l n)) v d (d ∷ ds) w
             ∙ ap (dart_at l) (met_at (way_at l) v (d ∷ ds) q e d)
 
-    pub met_nothing : first_met (way_at l) v ds ≡ Missing → map (dart_at l) ds ≡ []
+    pub met_nothing : first_met (way_at l) v ds ≡ None → map (dart_at l) ds ≡ []
     met_nothing e = ap (map (dart_at l)) (met_none (way_at l) v ds e)

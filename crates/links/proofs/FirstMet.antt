@@ -1,11 +1,11 @@
 -- The first departure met clockwise: under other names, whichever stands in for none, and what the answer tells.
 -- Assumes nothing.
+use Rattle.std.specs.Prelude.{Some, None}
 use mathlib.Core.Path.{◌≡◌, refl, sym, ap, ◌∙◌}
 use mathlib.Core.List.{List, [], ◌∷◌, map-id, Memᴰ}
 use Prim.Native.Nat.{ℕ, ◌*◌, ◌/◌, ◌<◌}
 use native.Mathlib.Omega.{arith}
 use lib.IntN.{ℤ}
-use Rattle.lists.specs.declared.Found.TheVariants.{At, Missing}
 use Rattle.lists.proofs.Keeps.{keep_in}
 use Rattle.lists.proofs.Scans.{table_has, table_in}
 use Rattle.lists.proofs.Bools.{same_false}
@@ -20,7 +20,7 @@ use Rattle.links.specs.Linking.{positions, departures_but, first_met}
 pub met-same : (way way' : ℕ → Way) (v : Way) (ds : List ℕ) → ((d : ℕ) → Memᴰ d ds → way' d ≡ way d)
     → first_met way' v ds ≡ first_met way v ds
 met-same way way' v [] h = refl
-met-same way way' v (d ∷ ds) h = ap At (ap (first_clockwise way' v d) (sym (map-id (d ∷ ds)))
+met-same way way' v (d ∷ ds) h = ap Some (ap (first_clockwise way' v d) (sym (map-id (d ∷ ds)))
     ∙ first_map (λ x. x) way way' v d (d ∷ ds) h)
 
 -- ---- what the answer tells
@@ -36,16 +36,16 @@ module _ {D : Type 0} (way : D → Way) (v : Way) where
   first_none u = refl
 
 module _ (way : ℕ → Way) (v : Way) where
-  pub met_at : (ds : List ℕ) (q : ℕ) → first_met way v ds ≡ At q → (u : ℕ) → first_clockwise way v u ds ≡ q
+  pub met_at : (ds : List ℕ) (q : ℕ) → first_met way v ds ≡ Some q → (u : ℕ) → first_clockwise way v u ds ≡ q
   met_at [] q e u = let z : ◌≡◌ {A = ℕ} 0 1 = cc in absurd (omega arith)
   met_at (d ∷ ds) q e u = let k : first_clockwise way v d (d ∷ ds) ≡ q = cc in first_any way v d ds u d ∙ k
 
-  pub met_in : (ds : List ℕ) (q : ℕ) → first_met way v ds ≡ At q → Memᴰ q ds
+  pub met_in : (ds : List ℕ) (q : ℕ) → first_met way v ds ≡ Some q → Memᴰ q ds
   met_in [] q e = let z : ◌≡◌ {A = ℕ} 0 1 = cc in absurd (omega arith)
   met_in (d ∷ ds) q e = let k : first_clockwise way v d (d ∷ ds) ≡ q = cc in
       rw (← k) (first_in way v d (d ∷ ds) {d = d} (Memᴰ.head refl))
 
-  pub met_none : (ds : List ℕ) → first_met way v ds ≡ Missing → ds ≡ []
+  pub met_none : (ds : List ℕ) → first_met way v ds ≡ None → ds ≡ []
   met_none [] e = refl
   met_none (d ∷ ds) e = let z : ◌≡◌ {A = ℕ} 0 1 = cc in absurd (omega arith)
 

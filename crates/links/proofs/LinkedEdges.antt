@@ -1,4 +1,5 @@
 -- An edge linked in and unlinked in the table is so in the map. Assumes nothing.
+use Rattle.std.specs.Prelude.{Option, Some, None}
 use mathlib.Core.Path.{◌≡◌, refl, sym, ap, ap₂, ◌∙◌, subst}
 use mathlib.Core.Logic.{◌⊎◌, inl, inr}
 use mathlib.Core.Bool.{Bool, not, ◌&&◌, and_assoc}
@@ -8,8 +9,6 @@ use native.Mathlib.Omega.{arith}
 use lib.IntN.{ℤ, pos}
 use Rattle.lists.specs.Tests.{same}
 use Rattle.lists.specs.Scans.{keep}
-use Rattle.lists.specs.declared.Found.{Found}
-use Rattle.lists.specs.declared.Found.TheVariants.{At, Missing}
 use Rattle.lists.proofs.Bools.{equal?, same_eq, same_false, not-true, eq2}
 use Rattle.lists.proofs.Keeps.{keep_in, keep-map, keep_cong, keep-both}
 use Rattle.lists.proofs.Members.{map_cong}
@@ -68,13 +67,13 @@ module _ {l : List ℤ} {n : ℕ} (t : EdgeRows l n) (p : ℕ) (h : p < n * 2) w
       at_own d e = ap (λ (x : Dart). lead (rev (dart_at l p)) x (redirect x (dart_at l p) m))
           (sym (ap (λ (v : Way). first_clockwise (way m) v (dart_at l p) (map (dart_at l) ds)) (way_is t p h) ∙ e))
 
-      go : (r : Found) → first_met (way_at l) (way_at l p) ds ≡ r → edge_map (linked_where l n p r) n
+      go : (r : Option ℕ) → first_met (way_at l) (way_at l p) ds ≡ r → edge_map (linked_where l n p r) n
           ≡ (let c = first_clockwise (way m) (way m (dart_at l p)) (dart_at l p) (map (dart_at l) ds) in
           lead (rev (dart_at l p)) c (redirect c (dart_at l p) m))
-      go (At q) e = linked_at-map q (met_below t p h other q e)
+      go (Some q) e = linked_at-map q (met_below t p h other q e)
           ∙ at_own (dart_at l q) (met_found t ds (λ x k. leaving_below l n (side_cell l p 1) p other x k) (way_at l p) q e
           (dart_at l p))
-      go Missing e =
+      go None e =
           linked_at-map p h ∙ at_own (dart_at l p)
           (ap (first_clockwise (way m) (way_at l p) (dart_at l p))
           (met_nothing t ds (λ x k. leaving_below l n (side_cell l p 1) p other x k) (way_at l p) e)

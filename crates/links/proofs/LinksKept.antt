@@ -1,4 +1,5 @@
 -- What is required of rows is kept where links are redirected, stored, and a departure is linked in. Assumes nothing.
+use Rattle.std.specs.Prelude.{Option, Some, None}
 use mathlib.Core.Path.{◌≡◌, refl, ap, ◌∙◌}
 use mathlib.Core.Logic.{◌⊎◌, inl, inr}
 use mathlib.Core.Bool.{Bool, true, false, cond}
@@ -6,8 +7,6 @@ use mathlib.Core.List.{List}
 use Prim.Native.Nat.{ℕ, ◌*◌, ◌<◌}
 use lib.IntN.{ℤ}
 use lib.ListN.{set}
-use Rattle.lists.specs.declared.Found.{Found}
-use Rattle.lists.specs.declared.Found.TheVariants.{At, Missing}
 use Rattle.lists.proofs.Bools.{equal?}
 use Rattle.map.specs.Rows.{dart_of, dart_cell, has_edge}
 use Rattle.tables.specs.Tables.{same_z}
@@ -55,15 +54,15 @@ module _ {l : List ℤ} {n : ℕ} (t : EdgeRows l n) (p : ℕ) (h : p < n * 2) w
       (has_kept (redirected_relinked c d l n) t.fits (dart_of c).edge ∙ written_named t q k)
 
   -- where a departure is linked in, by the answer of the search
-  pub linked_where_relinked : (r : Found) → Relinked l (linked_where l n p r) n
-  linked_where_relinked (At q) = linked_at_relinked (dart_cell (dart_at l q))
-  linked_where_relinked Missing = linked_at_relinked (dart_cell (dart_at l p))
+  pub linked_where_relinked : (r : Option ℕ) → Relinked l (linked_where l n p r) n
+  linked_where_relinked (Some q) = linked_at_relinked (dart_cell (dart_at l q))
+  linked_where_relinked None = linked_at_relinked (dart_cell (dart_at l p))
 
-  linked_where_kept : (r : Found) → ((q : ℕ) → r ≡ At q → q < n * 2) → EdgeRows (linked_where l n p r) n
-  linked_where_kept (At q) b = linked_at_kept q (b q refl)
-  linked_where_kept Missing b = linked_at_kept p h
+  linked_where_kept : (r : Option ℕ) → ((q : ℕ) → r ≡ Some q → q < n * 2) → EdgeRows (linked_where l n p r) n
+  linked_where_kept (Some q) b = linked_at_kept q (b q refl)
+  linked_where_kept None b = linked_at_kept p h
 
-  pub met_below : (other q : ℕ) → first_met (way_at l) (way_at l p) (departures_but l n (side_cell l p 1) p other) ≡ At q
+  pub met_below : (other q : ℕ) → first_met (way_at l) (way_at l p) (departures_but l n (side_cell l p 1) p other) ≡ Some q
       → q < n * 2
   met_below other q e = leaving_below l n (side_cell l p 1) p other q
       (met_in (way_at l) (way_at l p) (departures_but l n (side_cell l p 1) p other) q e)

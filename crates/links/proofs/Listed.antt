@@ -1,6 +1,8 @@
 -- Departures written to the front of a list, and the first one met clockwise of those that are listed. Assumes nothing.
+use Rattle.std.specs.Prelude.{Option}
+use Rattle.std.specs.Option.{unwrap_or}
 use mathlib.Core.Path.{◌≡◌, sym, ap, ap₂, ◌∙◌}
-use mathlib.Core.Bool.{Bool, true, false, cond}
+use mathlib.Core.Bool.{Bool, true, false}
 use mathlib.Core.List.{List, [], ◌∷◌}
 use Prim.Native.Nat.{ℕ, ◌+◌, ◌*◌, ◌-◌, ◌<◌, ◌≤◌}
 use native.Mathlib.Nat.{sub-zero}
@@ -9,7 +11,6 @@ use native.Mathlib.Omega.{arith}
 use lib.IntN.{ℤ}
 use lib.ListN.{length, get_or, take, drop, set, length-set, drop_of_length-le}
 use lib.Seq.{drop-cons, sets, length-sets, sets-eq, take-append_seam}
-use Rattle.lists.specs.declared.Found.TheVariants.{At}
 use Rattle.lists.specs.Scans.{keep, fold}
 use Rattle.lists.specs.Tables.{table}
 use Rattle.lists.proofs.Scans.{table_step, table-end, length-table}
@@ -18,7 +19,7 @@ use Rattle.plane.specs.Directions.{Way}
 use Rattle.rotation.specs.Law.{first_clockwise}
 use Rattle.links.specs.declared.Choice.{Choice}
 use Rattle.links.specs.Linking.{positions, leaves_node, departures_of, chosen_of, answer}
-use Rattle.links.proofs.Choices.{scan_none}
+use Rattle.links.proofs.Choices.{no_choice, scan_all}
 use Rattle.links.proofs.FirstMet.{first_any, first_none}
 
 -- ---- written
@@ -80,26 +81,12 @@ module _ (l : List ℤ) (n : ℕ) (node : ℤ) (list : List ℕ) (room : n * 2 �
 
 -- ---- chosen
 
--- what the choice answers where there is one to stand for none
-abbrev pub settled : Choice → ℕ
-settled h = cond h.under h.below h.all
-
-settled_at : (s u : Bool) (a b q : ℕ) → answer (record { any = s; all = a; under = u; below = b }) ≡ At q → cond u b a
-    ≡ q
-settled_at s true a b q e = cc
-settled_at true false a b q e = cc
-settled_at false false a b q e = let z : ◌≡◌ {A = ℕ} 0 1 = cc in absurd (omega arith)
-
 module _ (way : ℕ → Way) (v : Way) where
-  -- the scan from p, which stands for none
-  pub settled_all : (p : ℕ) (ds : List ℕ)
-      → settled (fold (chosen_of way v) (record { any = false; all = p; under = false; below = p }) ds)
+  -- the scan of all, p standing for none
+  pub settled_all : (p : ℕ) (ds : List ℕ) → unwrap_or (answer (fold (chosen_of way v) no_choice ds)) p
       ≡ first_clockwise way v p ds
   settled_all p [] = sym (first_none way v p)
-  settled_all p (d ∷ ds) =
-      let h = fold (chosen_of way v) (record { any = false; all = p; under = false; below = p }) (d ∷ ds) in
-      settled_at h.any h.under h.all h.below (first_clockwise way v d (d ∷ ds))
-      (scan_none way v p p (d ∷ ds)) ∙ first_any way v d ds d p
+  settled_all p (d ∷ ds) = ap (λ (o : Option ℕ). unwrap_or o p) (scan_all way v (d ∷ ds)) ∙ first_any way v d ds d p
 
   -- a turn of the loop at place k
   module _ (f : ℕ → Bool) (l : List ℕ) (h : Choice) (k : ℕ) where

@@ -1,7 +1,6 @@
 -- Departures of a node by position, the first one met clockwise, and links changed in the numbers of a table.
-use Rattle.std.specs.Prelude.{◌≡◌, Bool, true, cond, not, ◌&&◌, List, [], ◌∷◌, ℕ, ◌+◌, ◌*◌, ◌-◌, ◌/◌, ℤ, set}
-use Rattle.lists.specs.declared.Found.{Found}
-use Rattle.lists.specs.declared.Found.TheVariants.{At, Missing}
+use Rattle.std.specs.Prelude.{◌≡◌, Bool, cond, not, ◌&&◌, List, [], ◌∷◌, ℕ, ◌+◌, ◌*◌, ◌-◌, ◌/◌, ℤ, set, Option, Some, None}
+use Rattle.std.specs.Option.{option_or}
 use Rattle.lists.specs.Tests.{same}
 use Rattle.lists.specs.Scans.{keep}
 use Rattle.lists.specs.Tables.{table, sweep}
@@ -32,9 +31,9 @@ abbrev pub departures_but : List ℤ → ℕ → ℤ → ℕ → ℕ → List �
 departures_but l n node a b = keep (λ p. leaves_node l node p && not (same p a) && not (same p b)) (positions n)
 
 -- the first of the departures met turning clockwise from v
-abbrev pub first_met : (ℕ → Way) → Way → List ℕ → Found
-first_met way v [] = Missing
-first_met way v (p ∷ ps) = At (first_clockwise way v p (p ∷ ps))
+abbrev pub first_met : (ℕ → Way) → Way → List ℕ → Option ℕ
+first_met way v [] = None
+first_met way v (p ∷ ps) = Some (first_clockwise way v p (p ∷ ps))
 
 -- ---- the scan for it
 
@@ -43,23 +42,21 @@ abbrev pub Known : List ℤ → ℕ → List ℤ → ℕ → Type 0
 Known l own c p = (p / 2 ≡ own → Run c) × ((p / 2 ≡ own → ⊥) → EdgeRow l (p / 2))
 
 -- the later of k, if there is one, and p, whose direction is w
-abbrev pub later_of : (ℕ → Way) → Bool → ℕ → ℕ → Way → ℕ
-later_of way some k p w = cond some (cond (before (way k) w) p k) p
+abbrev pub later_of : (ℕ → Way) → Option ℕ → ℕ → Way → ℕ
+later_of way (Some k) p w = cond (before (way k) w) p k
+later_of way None p w = p
 
 -- the choice with p besides
 abbrev pub chosen_of : (ℕ → Way) → Way → Choice → ℕ → Choice
 chosen_of way v h p =
-    let under = before (way p) v in
     record {
-      any = true;
-      all = later_of way h.any h.all p (way p);
-      under = cond under true h.under;
-      below = cond under (later_of way h.under h.below p (way p)) h.below;
+      all = Some (later_of way h.all p (way p));
+      below = cond (before (way p) v) (Some (later_of way h.below p (way p))) h.below;
     }
 
 -- what the choice answers
-abbrev pub answer : Choice → Found
-answer h = cond h.under (At h.below) (cond h.any (At h.all) Missing)
+abbrev pub answer : Choice → Option ℕ
+answer h = option_or h.below h.all
 
 -- ---- links changed, in the numbers
 
@@ -73,9 +70,9 @@ redirected old new l n =
 abbrev pub linked_at : List ℤ → ℕ → ℕ → ℤ → List ℤ
 linked_at l n p c = set (redirected c (dart_cell (dart_at l p)) l n) (side_place (reverse_of p) 3) c
 
-abbrev pub linked_where : List ℤ → ℕ → ℕ → Found → List ℤ
-linked_where l n p (At q) = linked_at l n p (dart_cell (dart_at l q))
-linked_where l n p Missing = linked_at l n p (dart_cell (dart_at l p))
+abbrev pub linked_where : List ℤ → ℕ → ℕ → Option ℕ → List ℤ
+linked_where l n p (Some q) = linked_at l n p (dart_cell (dart_at l q))
+linked_where l n p None = linked_at l n p (dart_cell (dart_at l p))
 
 -- the new departure p linked in, the position `other` not being there yet
 abbrev pub linked_in : List ℤ → ℕ → ℕ → ℕ → List ℤ

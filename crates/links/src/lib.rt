@@ -1,7 +1,7 @@
 // The first departure met turning clockwise, and the only ways in which links change.
 #![tactic(auto)]
 
-ghost use Rattle.std.specs.Prelude.{◌≡◌, true, false, not, ◌&&◌, ℕ, ◌+◌, ◌*◌, ◌/◌, ◌<◌, ◌≤◌, neg_ℤ, length, get_or};
+ghost use Rattle.std.specs.Prelude.{◌≡◌, true, not, ◌&&◌, IfSome, ℕ, ◌+◌, ◌*◌, ◌/◌, ◌<◌, ◌≤◌, neg_ℤ, length, get_or};
 ghost use Rattle.std.proofs.lemmas.List.Edits.{sets};
 ghost use Rattle.std.specs.Int.Signed.{non_neg};
 ghost use Rattle.lists.specs.Tests.{same};
@@ -12,29 +12,36 @@ ghost use Rattle.rotation.specs.Law.{lawful_next};
 ghost use Rattle.map.specs.Limits.{edge_width, max_edges};
 ghost use Rattle.map_rows.specs.Rows.{EdgeRows};
 ghost use Rattle.darts.specs.Positions.{side_cell, way_at, way_with, StepInRange};
-ghost use Rattle.links.specs.Linking.{Known, later_of, chosen_of, positions, leaves_node, departures_but, first_met};
-ghost use Rattle.links.specs.Linking.{departures_of, redirected, linked_at, linked_in, linked_edge, unlinked_edge};
+ghost use Rattle.links.specs.Linking.{Known, answer, later_of, chosen_of, positions, leaves_node, departures_but};
+ghost use Rattle.links.specs.Linking.{first_met, departures_of, redirected, linked_at, linked_in, linked_edge};
+ghost use Rattle.links.specs.Linking.{unlinked_edge};
 
 use darts::Step;
-use lists::Found;
 
 // A choice among departures so far: the last counterclockwise of all, and of those before a direction.
 #[derive(Clone, Copy)]
 struct Choice {
-    any: bool,
-    all: usize,
-    under: bool,
-    below: usize,
+    all: Option<usize>,
+    below: Option<usize>,
 }
 
-// The later of the chosen departure k, if there is one, and p, with p's first step w.
-fn later(edges: &[i64], own: usize, c: &[i64], some: bool, k: usize, p: usize, w: Step) -> usize
-    requires { (some ≡ true → Known edges.now own c.now k) × StepInRange w }
-    ensures { result ≡ later_of (way_with edges.now own c.now) some k p (way_to w.from w.to) }
-{
-    if !some {
-        return p;
+impl Choice {
+    // The first one met clockwise from the direction: the last before it, and the last of all where there is none.
+    fn answer(self) -> Option<usize>
+        ensures { result ≡ answer self }
+    {
+        self.below.or(self.all)
     }
+}
+
+// The later of the chosen departure, if there is one, and p, with p's first step w.
+fn later(edges: &[i64], own: usize, c: &[i64], chosen: Option<usize>, p: usize, w: Step) -> usize
+    requires { IfSome chosen (Known edges.now own c.now) × StepInRange w }
+    ensures { result ≡ later_of (way_with edges.now own c.now) chosen p (way_to w.from w.to) }
+{
+    let Some(k) = chosen else {
+        return p;
+    };
     if darts::before(darts::step_with(edges, own, c, k), w) {
         p
     } else {
@@ -45,26 +52,22 @@ fn later(edges: &[i64], own: usize, c: &[i64], some: bool, k: usize, p: usize, w
 // The choice with the departure p besides, for the direction v.
 fn chosen(edges: &[i64], own: usize, c: &[i64], h: Choice, p: usize, v: Step) -> Choice
     requires { Known edges.now own c.now p
-        × (h.any ≡ true → Known edges.now own c.now h.all)
-        × (h.under ≡ true → Known edges.now own c.now h.below)
+        × IfSome h.all (Known edges.now own c.now)
+        × IfSome h.below (Known edges.now own c.now)
         × StepInRange v }
     ensures { result ≡ chosen_of (way_with edges.now own c.now) (way_to v.from v.to) h p }
 {
     let w = darts::step_with(edges, own, c, p);
-    let all = later(edges, own, c, h.any, h.all, p, w);
+    let all = Some(later(edges, own, c, h.all, p, w));
     if !darts::before(w, v) {
         return Choice {
-            any: true,
             all,
-            under: h.under,
             below: h.below,
         };
     }
     Choice {
-        any: true,
         all,
-        under: true,
-        below: later(edges, own, c, h.under, h.below, p, w),
+        below: Some(later(edges, own, c, h.below, p, w)),
     }
 }
 
@@ -79,38 +82,25 @@ pub fn first_clockwise(
     v: Step,
     a: usize,
     b: usize,
-) -> Found
+) -> Option<usize>
     requires { EdgeRows edges.now count × (own < count → Run c.now) × StepInRange v }
     ensures { result ≡ first_met (way_with edges.now own c.now) (way_to v.from v.to)
         (departures_but edges.now count node a b) }
 {
     let mut h = Choice {
-        any: false,
-        all: 0,
-        under: false,
-        below: 0,
+        all: None,
+        below: None,
     };
     for i in 0..count {
         let p = i * 2;
-        if edges[i * map::EDGE_WIDTH + map::START] == node {
-            if (p != a) & (p != b) {
-                h = chosen(edges, own, c, h, p, v);
-            }
+        if edges[i * map::EDGE_WIDTH + map::START] == node && p != a && p != b {
+            h = chosen(edges, own, c, h, p, v);
         }
-        if edges[i * map::EDGE_WIDTH + map::END] == node {
-            if (p + 1 != a) & (p + 1 != b) {
-                h = chosen(edges, own, c, h, p + 1, v);
-            }
+        if edges[i * map::EDGE_WIDTH + map::END] == node && p + 1 != a && p + 1 != b {
+            h = chosen(edges, own, c, h, p + 1, v);
         }
     }
-    if h.under {
-        return Found::At(h.below);
-    }
-    if h.any {
-        Found::At(h.all)
-    } else {
-        Found::Missing
-    }
+    h.answer()
 }
 
 // Lists the departures from the node at the front of the list; their count.
@@ -142,18 +132,16 @@ pub fn clockwise(edges: &[i64], own: usize, c: &[i64], list: &[u16], p: usize) -
 {
     let v = darts::step_with(edges, own, c, p);
     let mut h = Choice {
-        any: false,
-        all: p,
-        under: false,
-        below: p,
+        all: None,
+        below: None,
     };
-    for k in 0..list.len() {
-        let q = list[k] as usize;
+    for &d in list {
+        let q = d as usize;
         if q != p {
             h = chosen(edges, own, c, h, q, v);
         }
     }
-    if h.under { h.below } else { h.all }
+    h.answer().unwrap_or(p)
 }
 
 // Whether a departure from the node, but of edge row `own`, has the direction v.
@@ -164,15 +152,17 @@ pub fn way_taken(edges: &[i64], count: usize, node: i64, own: usize, v: Step) ->
         && same_way (way_at edges.now p) (way_to v.from v.to)) (positions count) }
 {
     for i in 0..count {
-        if (edges[i * map::EDGE_WIDTH + map::START] == node) & (i != own) {
-            if darts::same_way(darts::step_at(edges, i * 2), v) {
-                return true;
-            }
+        if edges[i * map::EDGE_WIDTH + map::START] == node
+            && i != own
+            && darts::same_way(darts::step_at(edges, i * 2), v)
+        {
+            return true;
         }
-        if (edges[i * map::EDGE_WIDTH + map::END] == node) & (i != own) {
-            if darts::same_way(darts::step_at(edges, i * 2 + 1), v) {
-                return true;
-            }
+        if edges[i * map::EDGE_WIDTH + map::END] == node
+            && i != own
+            && darts::same_way(darts::step_at(edges, i * 2 + 1), v)
+        {
+            return true;
         }
     }
     false
@@ -226,7 +216,7 @@ fn link_at(edges: &mut [i64], count: usize, p: usize, c: i64)
 }
 
 // The first departure met turning clockwise from the departure p, where `other` is not there yet.
-fn met(edges: &[i64], count: usize, p: usize, other: usize) -> Found
+fn met(edges: &[i64], count: usize, p: usize, other: usize) -> Option<usize>
     requires { EdgeRows edges.now count × (p < count * 2) }
     ensures { result ≡ first_met (way_at edges.now) (way_at edges.now p)
         (departures_but edges.now count (side_cell edges.now p 1) p other) }
@@ -241,17 +231,9 @@ pub fn link_in(edges: &mut [i64], count: usize, p: usize, other: usize)
     requires { EdgeRows edges.old count × (p < count * 2) × (count ≤ max_edges + 1) }
     ensures { edges.new ≡ linked_in edges.old count p other }
 {
-    let found = met(edges, count, p, other);
-    match found {
-        Found::At(q) => {
-            let c = darts::dart_at(edges, q);
-            link_at(edges, count, p, c);
-        }
-        Found::Missing => {
-            let c = darts::dart_at(edges, p);
-            link_at(edges, count, p, c);
-        }
-    }
+    let q = met(edges, count, p, other).unwrap_or(p);
+    let c = darts::dart_at(edges, q);
+    link_at(edges, count, p, c);
 }
 
 // Links in the new last row, start first, then end.

@@ -1,6 +1,7 @@
 -- Laws of scans over a table's rows, each at the rows that are left from i on, `table f i (n - i)`:
 -- a turn of the loop is `-hit` or `-miss` (`count_step`, `fold_step`, `sweep_step`), and the loop's end is `-end`.
 -- Assumes nothing.
+use Rattle.std.specs.Prelude.{Some, None}
 use mathlib.Core.Path.{◌≡◌, refl, sym, ap, ◌∙◌, subst}
 use mathlib.Core.Logic.{inl, inr}
 use mathlib.Core.List.Memᴰ
@@ -14,7 +15,6 @@ use lib.ListN.{length, get_or}
 use Rattle.lists.specs.Tests.{bit}
 use Rattle.lists.specs.Scans.{any_of, all_of, count_of, fold}
 use Rattle.lists.specs.Tables.{table, sweep, place}
-use Rattle.lists.specs.declared.Found.TheVariants.{At, Missing}
 
 left : (i n : ℕ) → i < n → n - i ≡ suc (n - (i + 1))
 left i n h = omega arith
@@ -37,14 +37,14 @@ module _ {A : Type 0} (f : ℕ → A) (i n : ℕ) where
   table-end h = rw (none i n h)
 
   module _ (p : A → Bool) where
-    pub place_hit : i < n → p (f i) ≡ true → place p i (table f i (n - i)) ≡ At i
+    pub place_hit : i < n → p (f i) ≡ true → place p i (table f i (n - i)) ≡ Some i
     place_hit h e = rw (table_step h, e)
 
     pub place_miss : i < n → p (f i) ≡ false → place p i (table f i (n - i))
         ≡ place p (i + 1) (table f (i + 1) (n - (i + 1)))
     place_miss h e = rw (table_step h, e)
 
-    pub place_end : n ≤ i → place p i (table f i (n - i)) ≡ Missing
+    pub place_end : n ≤ i → place p i (table f i (n - i)) ≡ None
     place_end h = rw (table-end h)
 
     pub any_hit : i < n → p (f i) ≡ true → any_of p (table f i (n - i)) ≡ true
@@ -117,10 +117,10 @@ module _ {A : Type 0} (f : ℕ → A) where
         ∙ place_skip n i (omega arith) (λ k l. all_of k (omega arith)))
 
     pub place_at : (n i : ℕ) → i < n → ((k : ℕ) → k < i → p (f k) ≡ false) → p (f i) ≡ true → place p 0 (table f 0 n)
-        ≡ At i
+        ≡ Some i
     place_at n i h all_of e = sym (place_skip n i (omega arith) all_of) ∙ place_hit f i n p h e
 
-    pub place_none : (n : ℕ) → ((k : ℕ) → k < n → p (f k) ≡ false) → place p 0 (table f 0 n) ≡ Missing
+    pub place_none : (n : ℕ) → ((k : ℕ) → k < n → p (f k) ≡ false) → place p 0 (table f 0 n) ≡ None
     place_none n all_of = sym (place_skip n n (omega arith) all_of) ∙ place_end f n n p (omega arith)
 
 module _ {A : Type 0} where

@@ -1,7 +1,5 @@
 -- Lists read place by place: a loop over rows is a scan of `table f i (n - i)`, the rows that are left from place i on.
-use Rattle.std.specs.Prelude.{Bool, cond, List, [], ◌∷◌, ℕ, zero, suc, ◌+◌}
-use Rattle.lists.specs.declared.Found.{Found}
-use Rattle.lists.specs.declared.Found.TheVariants.{At, Missing}
+use Rattle.std.specs.Prelude.{Bool, cond, List, [], ◌∷◌, ℕ, zero, suc, ◌+◌, Option, Some, None}
 
 -- f a, f (a + 1), .. n of them
 abbrev pub table : {A : Type 0} → (ℕ → A) → ℕ → ℕ → List A
@@ -14,6 +12,6 @@ sweep g s a zero = s
 sweep g s a (suc n) = sweep g (g s a) (a + 1) n
 
 -- the place, counted from k, of the first element that p takes
-abbrev pub place : {A : Type 0} → (A → Bool) → ℕ → List A → Found
-place p k [] = Missing
-place p k (r ∷ rs) = let rest = place p (k + 1) rs in cond (p r) (At k) rest
+abbrev pub place : {A : Type 0} → (A → Bool) → ℕ → List A → Option ℕ
+place p k [] = None
+place p k (r ∷ rs) = let rest = place p (k + 1) rs in cond (p r) (Some k) rest

@@ -1,8 +1,2 @@
-// What a search for a number answers: the place of its row, or missing.
+// Lists, their tests and scans: definitions and laws.
 #![tactic(auto)]
-
-#[derive(Clone, Copy)]
-pub enum Found {
-    At(usize),
-    Missing,
-}

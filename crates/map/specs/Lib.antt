@@ -8,6 +8,7 @@ pub mod Faces
 pub mod Tickets
 pub mod Edits
 pub mod Reasons
+pub mod Refusals
 pub mod Ticket
 pub mod Grow
 pub mod Sound

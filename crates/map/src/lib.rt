@@ -3,6 +3,7 @@
 
 ghost use Rattle.std.specs.Prelude.{◌≡◌};
 ghost use Rattle.map.specs.Limits.{limits};
+ghost use Rattle.map.specs.Refusals.{number, answer_of};
 
 // The map; its rows stand in three tables that the caller lends beside the head.
 #[derive(Clone, Copy)]
@@ -127,10 +128,48 @@ pub struct Counts {
 }
 
 // The two variants of kinds 7 to 14: New gives new numbers to what an edit changes, Mod keeps numbers.
-#[derive(Clone, Copy)]
+#[derive(Clone, Copy, PartialEq, Eq)]
 pub enum Variant {
     New,
     Mod,
+}
+
+// Why a call is turned down, by its number in document 01.
+#[derive(Clone, Copy, PartialEq, Eq)]
+pub enum Refusal {
+    NotWhole = 1,
+    NotInForm = 2,
+    UnknownTicket = 3,
+    NoSuchRow = 4,
+    OutOfRange = 5,
+    EqualNeighbours = 6,
+    NotSimple = 7,
+    EndsDiffer = 8,
+    NotIsolated = 9,
+    PointTaken = 10,
+    DirectionTaken = 11,
+    FacesDiffer = 12,
+    NotOnCurve = 13,
+    NodeInside = 14,
+    Crosses = 15,
+    NoSharedNode = 16,
+    OtherEdgeEnds = 17,
+    TooManyPoints = 18,
+    OrderChanges = 19,
+    NoRoom = 20,
+    NumbersSpent = 21,
+    SidesChange = 22,
+    Overlaps = 23,
+    Touches = 24,
+    ListedTwice = 28,
+}
+
+impl From<Refusal> for u64 {
+    ghost from_gives = { λ r n. n ≡ number r };
+
+    fn from(r: Refusal) -> u64 {
+        r as u64
+    }
 }
 
 // Refusal and value: 0 and the value where a call is carried out, the refusal's number and 0 where it is turned down.
@@ -138,4 +177,18 @@ pub enum Variant {
 pub struct Answer {
     pub refusal: u64,
     pub value: i64,
+}
+
+impl From<Result<i64, Refusal>> for Answer {
+    ghost from_gives = { λ r a. a ≡ answer_of r };
+
+    fn from(r: Result<i64, Refusal>) -> Answer {
+        match r {
+            Ok(value) => Answer { refusal: 0, value },
+            Err(refusal) => Answer {
+                refusal: u64::from(refusal),
+                value: 0,
+            },
+        }
+    }
 }

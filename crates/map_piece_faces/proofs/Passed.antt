@@ -1,5 +1,5 @@
 -- The matrix of zeros, and with what the rows that a loop has passed relate. Assumes nothing.
-use mathlib.Core.Path.{◌≡◌, refl, sym, ap, ◌∙◌}
+use mathlib.Core.Path.{◌≡◌, refl, sym, ap, ◌∙◌, subst}
 use mathlib.Core.Bool.{Bool, true, false, ◌||◌, or-false, or_assoc}
 use mathlib.Core.List.{List}
 use Prim.Native.Nat.{ℕ, zero, suc, ◌+◌, ◌*◌, ◌/◌, ◌%◌}
@@ -64,3 +64,8 @@ module _ (hits : ℕ → ℕ → ℕ → Bool) where
   passed_more i g g₁ g₂ before more r h =
       relates_as (λ p f. one_more i p f (r p f))
       (more (λ p f. r p f || any_of (hits p f) (table (λ k. k) 0 i)) (before r h))
+
+  pub passed_turn : (i n : ℕ) → n ≡ i + 1 → (g g₁ g₂ : List ℕ) → Passed hits i g g₁ → Gains (λ p f. hits p f i) g₁ g₂
+      → Passed hits n g g₂
+  passed_turn i n e g g₁ g₂ before more =
+      subst (λ (k : ℕ). Passed hits k g g₂) (sym e) (passed_more i g g₁ g₂ before more)

@@ -1,5 +1,6 @@
 -- On tables in form the matrix by rows, labels and rows named has for each face of the map the pieces in it and for
 -- each piece the faces it is in, by rows. Assumes nothing.
+use Rattle.std.specs.Prelude.{Some, None}
 use mathlib.Core.Path.{◌≡◌, refl, sym, ap, ap₂, ◌∙◌, subst}
 use mathlib.Core.Logic.{◌⊎◌, inl, inr}
 use mathlib.Core.Bool.{Bool, true, false, not, beq, ◌&&◌, ◌||◌, true≢false, false≢true}
@@ -12,7 +13,6 @@ use lib.ListN.{get_or, get_or-eq_default}
 use Rattle.lists.specs.Tests.{same}
 use Rattle.lists.specs.Scans.{any_of, keep, count_of, is_some}
 use Rattle.lists.specs.Tables.{table, place}
-use Rattle.lists.specs.declared.Found.TheVariants.{At, Missing}
 use Rattle.lists.proofs.Bools.{agree, beq_true, same_true, same_eq, same_false, same_sym, not-true, or-true, and-true}
 use Rattle.lists.proofs.Bools.{and_is, and_right}
 use Rattle.lists.proofs.Counts.{count_cong, count_map}
@@ -145,7 +145,7 @@ module _ {nodes edges faces : List ℤ} {h : Head} (f : Formed nodes edges faces
     | inl (j, q) ↦ let r = face_found faces k (face_rows_lem f).ranges (pos y) j q in
         ap (is_found x) q ∙ same_faces x j t r.0 ∙ ap (same (face_at faces x)) (sym (ap nat_abs r.1))
     | inr q ↦ ap (is_found x) q ∙ sym (same_false (face_at faces x) y (λ d.
-        let c : At x ≡ Missing = sym (row_found_lem (face_rows_rising (face_rows_lem f)) (face_at faces) face_first x t)
+        let c : Some x ≡ None = sym (row_found_lem (face_rows_rising (face_rows_lem f)) (face_at faces) face_first x t)
         ∙ ap (λ v. place (same_z (pos v)) 0 (column face_width faces k)) d ∙ q in
         let z : ◌≡◌ {A = ℕ} 0 1 = cc in
         omega arith))

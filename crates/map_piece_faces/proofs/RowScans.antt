@@ -1,5 +1,6 @@
 -- Scans over the numbers of rows: by what the rows hold, and past the rows in use. Numbers in a column that rises tell
 -- rows apart. Assumes nothing.
+use Rattle.std.specs.Prelude.{Some}
 use mathlib.Core.Path.{◌≡◌, refl, sym, ap, ap₂, ◌∙◌}
 use mathlib.Core.Logic.{inl, inr}
 use mathlib.Core.Bool.{Bool, false, ◌||◌}
@@ -11,7 +12,6 @@ use lib.ListN.{get_or}
 use Rattle.lists.specs.Tests.{same}
 use Rattle.lists.specs.Scans.{any_of, keep}
 use Rattle.lists.specs.Tables.{table, place}
-use Rattle.lists.specs.declared.Found.TheVariants.{At}
 use Rattle.lists.proofs.Bools.{which, agree, same_true, same_eq}
 use Rattle.lists.proofs.Scans.{table_in}
 use Rattle.tables.specs.Tables.{same_z, column, Rising}
@@ -62,12 +62,12 @@ below_rows n i m = let r = table_in (λ i. i) 0 n m in omega (arith, r.2, r.3)
 module _ {w : ℕ} {l : List ℤ} {n : ℕ} (r : Rising w l n) (number : ℕ → ℕ)
     (cell : (i : ℕ) → i < n → get_or l (i * w) (pos 0) ≡ pos (number i)) where
   -- a row is found by its number
-  pub row_found_lem : (i : ℕ) → i < n → place (same_z (pos (number i))) 0 (column w l n) ≡ At i
+  pub row_found_lem : (i : ℕ) → i < n → place (same_z (pos (number i))) 0 (column w l n) ≡ Some i
   row_found_lem i t = ap (λ z. place (same_z z) 0 (column w l n)) (sym (cell i t)) ∙ row_place w l n r i t
 
   number_once : (i j : ℕ) → i < n → j < n → number i ≡ number j → i ≡ j
   number_once i j t u e =
-      let at : At i ≡ At j = sym (row_found_lem i t) ∙ ap (λ k. place (same_z (pos k)) 0 (column w l n)) e
+      let at : Some i ≡ Some j = sym (row_found_lem i t) ∙ ap (λ k. place (same_z (pos k)) 0 (column w l n)) e
       ∙ row_found_lem j u in
       cc
 

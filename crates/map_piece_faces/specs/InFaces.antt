@@ -1,11 +1,9 @@
 -- Pieces and faces of a map by rows, and the matrix that says which piece lies in which face.
-use Rattle.std.specs.Prelude.{◌≡◌, Bool, true, false, not, ◌&&◌, ◌||◌, ℕ, ◌+◌, ◌*◌, ◌<◌, ◌≤◌, ℤ, pos, length, get_or}
+use Rattle.std.specs.Prelude.{◌≡◌, Bool, true, false, not, ◌&&◌, ◌||◌, ℕ, ◌+◌, ◌*◌, ◌<◌, ◌≤◌, ℤ, pos, length, get_or, Option, Some, None}
 use mathlib.Core.List.{List, ◌++◌, map, Memᴰ}
 use Rattle.lists.specs.Tests.{same}
 use Rattle.lists.specs.Scans.{any_of, keep, count_of}
 use Rattle.lists.specs.Tables.{table, place}
-use Rattle.lists.specs.declared.Found.{Found}
-use Rattle.lists.specs.declared.Found.TheVariants.{At, Missing}
 use Rattle.tables.specs.Tables.{same_z, column}
 use Rattle.map.specs.Limits.{node_width, face_width, max_nodes, max_faces}
 use Rattle.map.specs.Rows.{Map}
@@ -33,9 +31,9 @@ abbrev pub dart_relates : List ℕ → List ℕ → List ℕ → ℕ → ℕ →
 dart_relates starts bears labels p f q = same p (get_or labels (get_or starts q 0) 0) && same f (get_or bears q 0)
 
 -- it is the row that was found
-abbrev pub is_found : ℕ → Found → Bool
-is_found g (At k) = same g k
-is_found g Missing = false
+abbrev pub is_found : ℕ → Option ℕ → Bool
+is_found g (Some k) = same g k
+is_found g None = false
 
 -- node row i is in face row g, of f, and is row p
 abbrev pub node_relates : List ℤ → List ℤ → ℕ → ℕ → ℕ → ℕ → Bool

@@ -14,7 +14,6 @@ ghost use Rattle.outcomes.specs.Outcomes.{Formed};
 ghost use Rattle.piece_faces.specs.Bits.{cells, Relates};
 ghost use Rattle.map_piece_faces.specs.InFaces.{DartRows, dart_relates, node_relates, is_root, Related, InFaces};
 
-use lists::Found;
 use map::{Counts, Head, Map};
 
 // Relates the piece of each directed edge to the face that it bears.
@@ -25,9 +24,8 @@ fn relate_darts(starts: &[u16], bears: &[u16], labels: &[u16], count: usize, gra
         || any_of (dart_relates starts.now bears.now labels.now p f)
         (table (λ q. q) 0 (count * 2))) }
 {
-    for q in 0..count * 2 {
-        let p = labels[starts[q] as usize] as usize;
-        piece_faces::relate(graph, p, bears[q] as usize);
+    for (s, f) in starts[..count * 2].iter().zip(&bears[..count * 2]) {
+        piece_faces::relate(graph, labels[*s as usize] as usize, *f as usize);
     }
 }
 
@@ -47,11 +45,9 @@ fn relate_node(
         || node_relates nodes.now faces.now count p g i) }
 {
     let z = nodes[i * map::NODE_WIDTH + map::NODE_FACE];
-    let found = tables::find_indexed(faces, map::FACE_WIDTH, count, z, index);
-    let Found::At(k) = found else {
-        return;
-    };
-    piece_faces::relate(graph, i, k);
+    if let Some(k) = tables::find_indexed(faces, map::FACE_WIDTH, count, z, index) {
+        piece_faces::relate(graph, i, k);
+    }
 }
 
 // Relates each isolated node to its face.

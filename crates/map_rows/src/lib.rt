@@ -19,11 +19,9 @@ pub fn node_point(nodes: &[i64], i: usize) -> Point
     requires { NodeRow nodes.now i }
     ensures { (result ≡ (node_at nodes.now i).at) × InRange result }
 {
-    let x = nodes[i * map::NODE_WIDTH + map::X];
-    let y = nodes[i * map::NODE_WIDTH + map::Y];
     Point {
-        x: x as u64,
-        y: y as u64,
+        x: nodes[i * map::NODE_WIDTH + map::X] as u64,
+        y: nodes[i * map::NODE_WIDTH + map::Y] as u64,
     }
 }
 
@@ -32,8 +30,7 @@ pub fn is_isolated(nodes: &[i64], i: usize) -> bool
     requires { NodeRow nodes.now i }
     ensures { result ≡ is_some (node_at nodes.now i).face }
 {
-    let z = nodes[i * map::NODE_WIDTH + map::NODE_FACE];
-    z != -1
+    nodes[i * map::NODE_WIDTH + map::NODE_FACE] != -1
 }
 
 // The curve of edge row i.
@@ -76,24 +73,16 @@ pub fn write_edge(edges: &mut [i64], i: usize, s: Incidence, l: Line)
     requires { (i * 32 + 32 ≤ length edges.old) × (l.count ≤ 1000) }
     ensures { edges.new ≡ paste edges.old (i * 32) (cells_of s l) 32 }
 {
-    let number = s.number;
-    let start = s.start;
-    let end = s.end;
-    let next_left = s.next_left;
-    let next_right = s.next_right;
-    let left = s.left;
-    let right = s.right;
     let row = [
-        number,
-        start,
-        end,
-        next_left,
-        next_right,
-        left,
-        right,
+        s.number,
+        s.start,
+        s.end,
+        s.next_left,
+        s.next_right,
+        s.left,
+        s.right,
         l.count as i64,
     ];
     tables::write(edges, i * map::EDGE_WIDTH, &row);
-    let cells = l.cells;
-    tables::write(edges, i * map::EDGE_WIDTH + map::POINTS_AT, &cells);
+    tables::write(edges, i * map::EDGE_WIDTH + map::POINTS_AT, &l.cells);
 }

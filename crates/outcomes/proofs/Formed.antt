@@ -1,6 +1,7 @@
 -- What tables in form hold: rows in range and in rising order, counts and next numbers, each table as its map's rows
 -- with zeros behind. What a call on them answers: turned down by the first reason, or the map carried out. Assumes
 -- nothing.
+use Rattle.std.specs.Prelude.{None}
 use mathlib.Core.Path.{◌≡◌, refl, sym, ap, ◌∙◌}
 use mathlib.Core.Bool.{Bool, true, false, ◌&&◌}
 use mathlib.Core.List.{List, [], ◌∷◌, map, flat_map}
@@ -14,7 +15,6 @@ use Rattle.lists.specs.Tests.{same}
 use Rattle.lists.specs.Scans.{all_of, first_or}
 use Rattle.lists.specs.Members.{Distinct}
 use Rattle.lists.specs.Tables.{place}
-use Rattle.lists.specs.declared.Found.TheVariants.{Missing}
 use Rattle.tables.specs.Tables.{same_z, column, filled, numbered}
 use Rattle.tables.proofs.Filled.{WholeRows, whole_rows_lem, Wide}
 use Rattle.tables.proofs.Tests.{within-pos}
@@ -188,13 +188,13 @@ module _ {nodes edges faces : List ℤ} {h : Head} (f : Formed nodes edges faces
       }
 
   -- a named row that is missing
-  pub node_none : (z : ℤ) → place (same_z z) 0 (column node_width nodes (nat_abs h.nodes)) ≡ Missing
+  pub node_none : (z : ℤ) → place (same_z z) 0 (column node_width nodes (nat_abs h.nodes)) ≡ None
       → no_node (map_of (lent nodes edges faces h)) z ≡ true
   unfolding map_of
   node_none (pos k) e = rw (node_missing nodes (nat_abs h.nodes) ranges.node_rows_lem k e)
   node_none (negsuc k) e = refl
 
-  pub edge_none : (z : ℤ) → place (same_z z) 0 (column edge_width edges (nat_abs h.edges)) ≡ Missing
+  pub edge_none : (z : ℤ) → place (same_z z) 0 (column edge_width edges (nat_abs h.edges)) ≡ None
       → no_edge (map_of (lent nodes edges faces h)) z ≡ true
   unfolding map_of
   edge_none (pos k) e = rw (edge_missing edges (nat_abs h.edges) ranges.edge_rows_lem k e)

@@ -1,5 +1,6 @@
 -- Rows of tables in form, in the map's terms: a row in use is the map's row of its number, and a place that is found is
 -- such a row. Assumes nothing.
+use Rattle.std.specs.Prelude.{Some}
 use mathlib.Core.Path.{◌≡◌, sym, ap}
 use mathlib.Core.Bool.{false, not}
 use mathlib.Core.List.{List}
@@ -8,7 +9,6 @@ use Prim.Native.Nat.{ℕ, ◌<◌}
 use lib.IntN.{ℤ, pos, nat_abs}
 use Rattle.lists.specs.Scans.{is_some}
 use Rattle.lists.specs.Tables.{place}
-use Rattle.lists.specs.declared.Found.TheVariants.{At}
 use Rattle.map.specs.declared.Head.{Head}
 use Rattle.map.specs.Limits.{node_width, edge_width}
 use Rattle.map.specs.Rows.{map_of, node, edge, find_node, find_edge, lent}
@@ -60,14 +60,14 @@ module _ {nodes edges faces : List ℤ} {h : Head} (f : Formed nodes edges faces
 
   -- ---- places that are found
 
-  module _ (z : ℤ) (i : ℕ) (e : place (same_z z) 0 (column node_width nodes (nat_abs h.nodes)) ≡ At i) where
+  module _ (z : ℤ) (i : ℕ) (e : place (same_z z) 0 (column node_width nodes (nat_abs h.nodes)) ≡ Some i) where
     pub node_in : i < nat_abs h.nodes
     node_in = (node_found nodes (nat_abs h.nodes) (ranges f).node_rows_lem z i e).0
 
     pub node-number : z ≡ pos (node_at nodes i).number
     node-number = (node_found nodes (nat_abs h.nodes) (ranges f).node_rows_lem z i e).1
 
-  module _ (z : ℤ) (i : ℕ) (e : place (same_z z) 0 (column edge_width edges (nat_abs h.edges)) ≡ At i) where
+  module _ (z : ℤ) (i : ℕ) (e : place (same_z z) 0 (column edge_width edges (nat_abs h.edges)) ≡ Some i) where
     pub edge_in : i < nat_abs h.edges
     edge_in = (edge_found edges (nat_abs h.edges) (ranges f).edge_rows_lem z i e).0
 

@@ -1,5 +1,6 @@
 -- A number looked up as it was passed, two numbers compared as words, and the next node number as it is read. Assumes
 -- nothing.
+use Rattle.std.specs.Prelude.{Option}
 use mathlib.Core.Path.{◌≡◌, sym, ◌∙◌, ap₂}
 use mathlib.Core.List.{List}
 use Prim.Native.Nat.{ℕ}
@@ -8,7 +9,6 @@ use lib.IntN.{ℤ, pos}
 use mir.Syntax.{w64}
 use mir.Val.{of_z, to_z, SFits}
 use Rattle.lists.specs.Tables.{place}
-use Rattle.lists.specs.declared.Found.{Found}
 use Rattle.lists.specs.Tests.{same}
 use Rattle.tables.specs.Tables.{same_z, column}
 use Rattle.tables.proofs.Order.{word_test, same-pos}
@@ -28,6 +28,6 @@ next_node_back {h} k = count_back h.next_node k.next_node.natural k.next_node.mo
 
 -- ---- the place of the number as it was passed
 
-pub place_told : (w : ℕ) (l : List ℤ) {a n : ℕ} {u z : ℤ} {r v : Found} → a ≡ n → u ≡ z → r
+pub place_told : (w : ℕ) (l : List ℤ) {a n : ℕ} {u z : ℤ} {r v : Option ℕ} → a ≡ n → u ≡ z → r
     ≡ place (same_z u) 0 (column w l a) → r ≡ v → place (same_z z) 0 (column w l n) ≡ v
 place_told w l ea eu er ev = sym (λ j. place (same_z (eu j)) 0 (column w l (ea j))) ∙ sym er ∙ ev

@@ -1,7 +1,7 @@
 -- What edits promise: on tables in form, tables, head and answer after the call are those that the definitions give.
-use Rattle.std.specs.Prelude.{◌≡◌, true, List, ℕ, zero, suc, ℤ}
-use Rattle.lists.specs.declared.Found.{Found}
-use Rattle.lists.specs.declared.Found.TheVariants.{At, Missing}
+use Rattle.std.specs.Prelude.{◌≡◌, true, List, ℕ, zero, suc, ℤ, pos, Option, Some, None, Result, Ok, Err}
+use Rattle.map.specs.declared.Refusal.{Refusal}
+use Rattle.map.specs.Refusals.{number}
 use Rattle.map.specs.declared.Answer.{Answer}
 use Rattle.map.specs.declared.Head.{Head}
 use Rattle.bounding_boxes.specs.declared.Extent.{Extent}
@@ -12,8 +12,7 @@ use Rattle.map.specs.Reasons.{Reasons, first_reason, reasons}
 use Rattle.map.specs.Ticket.{Outcome, refused, unless, carried}
 use Rattle.map.specs.Loans.{Table, lent_now}
 use Rattle.outcomes.specs.declared.Done.{Done}
-use Rattle.outcomes.specs.declared.EndRows.{EndRows}
-use Rattle.outcomes.specs.declared.EndRows.TheVariants.{Both, NotBoth}
+use Rattle.outcomes.specs.declared.Carried.{Carried}
 
 -- the one record that edits require, which `form` establishes: conditions 1 and 2 do not hold
 pub record Formed (nodes edges faces : List ℤ) (h : Head) : Type 0 where
@@ -44,6 +43,11 @@ edited_unless l rs c = unless_with (rectangle (map_of l).edges) l (first_reason 
 abbrev pub edited : Lent → Ticket → Outcome
 edited l t = edited_unless l (reasons (sizes_of l) (map_of l) t) (carried (map_of l) t)
 
+-- head and answer after an edit, with the head h before it
+abbrev pub done_of : Head → Result Carried Refusal → Done
+done_of h (Ok d) = record { head = d.head; answer = record { refusal = 0; value = d.value } }
+done_of h (Err r) = record { head = h; answer = record { refusal = number r; value = pos 0 } }
+
 -- what a call left and answered
 abbrev pub outcome : List ℤ → List ℤ → List ℤ → Done → Outcome
 outcome nodes edges faces d = record { lent = lent nodes edges faces d.head; answer = d.answer }
@@ -56,12 +60,12 @@ abbrev pub outcome_with : Table → Table → Table → Head → Answer → Outc
 outcome_with nodes edges faces h a = record { lent = lent_now nodes edges faces h; answer = a }
 
 -- what was found of two numbers, as one answer
-abbrev pub end_rows : Found → Found → EndRows
-end_rows (At u) (At v) = Both u v
-end_rows (At u) Missing = NotBoth
-end_rows Missing f = NotBoth
+abbrev pub end_rows : Option ℕ → Option ℕ → Option (ℕ × ℕ)
+end_rows (Some u) (Some v) = Some (u, v)
+end_rows (Some u) None = None
+end_rows None f = None
 
 -- document 01's number for the answer of a lookup: 4 a named row is missing
-abbrev pub lookup_refusal : Found → ℕ
-lookup_refusal (At i) = 0
-lookup_refusal Missing = 4
+abbrev pub lookup_refusal : Option ℕ → ℕ
+lookup_refusal (Some i) = 0
+lookup_refusal None = 4

@@ -3,12 +3,11 @@
 #![tactic(auto)]
 
 ghost use Rattle.std.specs.Prelude.{◌≡◌, ◌+◌, ◌*◌, ◌≤◌, pos, length, replicate};
-ghost use Rattle.std.proofs.lemmas.List.Edits.{sets};
 ghost use Rattle.map.specs.Loans.{lent_now};
 ghost use Rattle.nesting.specs.Contents.{contents_of};
 ghost use Rattle.console.specs.Texts.{TextPut};
 ghost use Rattle.console.specs.Wrote.{Wrote};
-ghost use Rattle.outline.specs.Lines.{levels, indent, word_of, line_text, line_at, lines_text, contents_text};
+ghost use Rattle.outline.specs.Lines.{levels, word_of, line_text, line_at, lines_text, contents_text};
 
 use console::Streams;
 use map::{Answer, Head};
@@ -31,35 +30,11 @@ const WIDTH: usize = 3;
 
 const CELLS: usize = WIDTH * PARTS;
 
-// Puts blanks at the front.
-fn put_blanks(out: &mut [u8; LINE], n: usize)
-    requires { n ≤ indent }
-    ensures { out.new ≡ sets out.old 0 (replicate n 32) }
+// The word for a face, 0, or a piece.
+fn word_of(kind: i64) -> &'static str
+    ensures { result.now ≡ word_of kind }
 {
-    for i in 0..n {
-        out[i] = b' ';
-    }
-}
-
-// Puts the word for a face, 0, or a piece from a place on; the place after it.
-fn put_word(out: &mut [u8; LINE], at: usize, kind: i64) -> usize
-    requires { at ≤ indent }
-    ensures { (out.new ≡ sets out.old at (word_of kind))
-        × (result ≡ at + length (word_of kind)) }
-{
-    if kind == 0 {
-        out[at] = b'f';
-        out[at + 1] = b'a';
-        out[at + 2] = b'c';
-        out[at + 3] = b'e';
-        return at + 4;
-    }
-    out[at] = b'p';
-    out[at + 1] = b'i';
-    out[at + 2] = b'e';
-    out[at + 3] = b'c';
-    out[at + 4] = b'e';
-    at + 5
+    if kind == 0 { "face" } else { "piece" }
 }
 
 // Puts the line of a face or a piece.
@@ -67,8 +42,8 @@ fn put_line(out: &mut [u8; LINE], depth: i64, kind: i64, number: i64) -> usize
     ensures { TextPut out.old (line_text depth kind number) out.new result }
 {
     let n = console::clamp(depth, PARTS) * 2;
-    put_blanks(out, n);
-    let at = put_word(out, n, kind);
+    out[..n].fill(b' ');
+    let at = printing::put_text(out, n, word_of(kind).as_bytes());
     printing::write_row(out, at, &[number])
 }
 

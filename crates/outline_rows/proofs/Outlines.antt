@@ -1,4 +1,6 @@
 -- All lines from face row 0 on: its own line, then what is under it. Assumes nothing.
+use Rattle.std.specs.Prelude.{Option as Left, Some, None}
+use Rattle.std.specs.Option.{option_eq}
 use mathlib.Core.Path.{◌≡◌, refl, sym, ap, ◌∙◌, subst}
 use mathlib.Core.Bool.{Bool, true, false, cond, true≢false}
 use mathlib.Core.List.Memᴰ
@@ -6,6 +8,7 @@ use mathlib.Core.List.{List, [], ◌∷◌}
 use mathlib.Core.Option.{none, some}
 use Prim.Native.Nat.{ℕ, zero, suc, ◌-◌, ◌*◌, ◌≤◌}
 use native.Mathlib.Omega.{arith}
+use lib.Dec.{eqb}
 use lib.ListN.{length, get_or, set, replicate}
 use borrow.Author.Tests.{eqb-true, eqb-false, lt-ltb, le-ltb}
 use Rattle.lists.specs.Tests.{same}
@@ -15,9 +18,7 @@ use Rattle.lists.proofs.Keeps.{keep_all}
 use Rattle.piece_faces.specs.Bits.{span, vertex_of, related}
 use Rattle.nesting.specs.Contents.{line, each, lines, complete}
 use Rattle.nesting.specs.Claims.{Part}
-use Rattle.outline_rows.specs.declared.Listing.{Listing}
-use Rattle.outline_rows.specs.declared.Listing.TheVariants.{Left, Twice}
-use Rattle.outline_rows.specs.Listing.{SoFar, Told, Lists, listed_from, none_left, noted_lines, AllParts, Outlined}
+use Rattle.outline_rows.specs.Listing.{SoFar, Told, Lists, listed_from, noted_lines, AllParts, Outlined}
 use Rattle.outline_rows.proofs.Rows.{rows_all}
 use Rattle.outline_rows.proofs.States.{sound, one_more}
 use Rattle.outline_rows.proofs.Steps.{alike}
@@ -72,14 +73,14 @@ module _ (g : List ℕ) (parts : ℕ) (whole : AllParts g parts) (notes seen : L
       (sym (rows_all g 0 span (omega arith)))
 
   -- nothing is left exactly where no line is missed
-  told : (notes₂ seen₂ : List ℕ) (r : Listing)
+  told : (notes₂ seen₂ : List ℕ) (r : Left ℕ)
       → Told all notes₂ seen₂ (listed_from g false 0 0 span 1 (parts - 1) (line 0 false 0 ∷ [])) r
-      → Outlined g parts notes₂ (none_left r)
-  told notes₂ seen₂ Twice e = record {
+      → Outlined g parts notes₂ (option_eq eqb r (Some 0))
+  told notes₂ seen₂ None e = record {
     lists = λ q. absurd (true≢false (sym q));
     none_is = λ q. ap (complete parts) (all_lines ∙ e);
   }
-  told notes₂ seen₂ (Left k) t =
+  told notes₂ seen₂ (Some k) t =
       let after = t.0 in
       let s = t.2 in
       let completed = ap (complete parts) (all_lines ∙ t.1) in
@@ -98,8 +99,8 @@ module _ (g : List ℕ) (parts : ℕ) (whole : AllParts g parts) (notes seen : L
 
   pub outlined : (notes₁ seen₁ : List ℕ)
       → (notes₁ ≡ set (set notes (parts * 2 - 2) 0) (parts * 2 - 1) 0) × (seen₁ ≡ set seen 0 1)
-      → (notes₂ seen₂ : List ℕ) (r : Listing) → Lists g false 0 0 span 1 (parts - 1) notes₁ seen₁ notes₂ seen₂ r
-      → Outlined g parts notes₂ (none_left r)
+      → (notes₂ seen₂ : List ℕ) (r : Left ℕ) → Lists g false 0 0 span 1 (parts - 1) notes₁ seen₁ notes₂ seen₂ r
+      → Outlined g parts notes₂ (option_eq eqb r (Some 0))
   outlined notes₁ seen₁ noted notes₂ seen₂ r t = told notes₂ seen₂ r (t.told all (line 0 false 0 ∷ []) whole.closed
       (subst (λ w. SoFar all (parts - 1) notes₁ w (line 0 false 0 ∷ [])) (sym noted.1)
       (subst (λ w. SoFar all (parts - 1) w (set seen 0 1) (line 0 false 0 ∷ [])) (sym noted.0) first)))

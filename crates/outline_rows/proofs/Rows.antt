@@ -1,4 +1,5 @@
 -- What is related from a row on: the first, and those after it. Assumes nothing.
+use Rattle.std.specs.Prelude.{Some, None}
 use mathlib.Core.Path.{◌≡◌, refl, sym, ap, ◌∙◌, subst}
 use mathlib.Core.Logic.{inl, inr}
 use mathlib.Core.Bool.{true, not}
@@ -7,14 +8,13 @@ use Prim.Native.Nat.{ℕ, zero, suc, ◌+◌, ◌-◌, ◌<◌, ◌≤◌}
 use native.Mathlib.Omega.{arith}
 use Rattle.lists.specs.Tests.{same}
 use Rattle.lists.specs.Tables.{table}
-use Rattle.lists.specs.declared.Found.TheVariants.{At, Missing}
 use Rattle.lists.proofs.Bools.{which, same_false}
 use Rattle.lists.proofs.Keeps.{keep_in, keep_has, keep_all}
 use Rattle.lists.proofs.Scans.{table_has, table_in}
 use Rattle.piece_faces.specs.Bits.{span, bit_at, bits_from, related_but, first_of}
 use Rattle.piece_faces.proofs.Rows.{taken, row_hit, row_miss, row_end}
 
-first_none : (xs : List ℕ) → first_of xs ≡ Missing → xs ≡ []
+first_none : (xs : List ℕ) → first_of xs ≡ None → xs ≡ []
 first_none [] e = refl
 first_none (x ∷ xs) e = let z : ◌≡◌ {A = ℕ} 0 1 = cc in absurd (omega arith)
 
@@ -22,16 +22,16 @@ module _ (g : List ℕ) (v but : ℕ) where
   abbrev rows : ℕ → List ℕ
   rows y = related_but g v y but
 
-  pub rows_end : (y : ℕ) → first_of (rows y) ≡ Missing → rows y ≡ []
+  pub rows_end : (y : ℕ) → first_of (rows y) ≡ None → rows y ≡ []
   rows_end y = first_none (rows y)
 
   -- the first from row y on is z: those after it are from row z + 1 on
   abbrev pub First : ℕ → ℕ → Type 0
   First y z = (z < span) × (rows y ≡ z ∷ rows (z + 1))
 
-  first_in : (k y z : ℕ) → span - y ≡ k → first_of (rows y) ≡ At z → First y z
+  first_in : (k y z : ℕ) → span - y ≡ k → first_of (rows y) ≡ Some z → First y z
   first_in zero y z q e =
-      let c : At z ≡ Missing = sym e ∙ ap first_of (row_end g v but y (omega arith)) in
+      let c : Some z ≡ None = sym e ∙ ap first_of (row_end g v but y (omega arith)) in
       let i : ◌≡◌ {A = ℕ} 0 1 = cc in
       absurd (omega arith)
   first_in (suc k) y z q e =
@@ -39,7 +39,7 @@ module _ (g : List ℕ) (v but : ℕ) where
       elim (which (taken g v but y)) [
         | inl t ↦
             let is = row_hit g v but y (omega arith) t in
-            let c : At z ≡ At y = sym e ∙ ap first_of is in
+            let c : Some z ≡ Some y = sym e ∙ ap first_of is in
             let i : z ≡ y = cc in
             (omega arith, subst (λ w. rows y ≡ w ∷ rows (w + 1)) (sym i) is)
         | inr f ↦
@@ -48,7 +48,7 @@ module _ (g : List ℕ) (v but : ℕ) where
             (r.0, is ∙ r.1)
       ]
 
-  pub rows_first : (y z : ℕ) → first_of (rows y) ≡ At z → First y z
+  pub rows_first : (y z : ℕ) → first_of (rows y) ≡ Some z → First y z
   rows_first y z e = first_in (span - y) y z refl e
 
   -- a row below the span, with its bit

@@ -1,5 +1,7 @@
 -- What each return of `list_pieces` and `list_faces` tells: nothing more is related, one would be listed twice, or what
 -- is under one is listed and then the others. Assumes nothing.
+use Rattle.std.specs.Prelude.{Option as Left, Some, None, IfSome}
+use Rattle.std.proofs.lemmas.Option.{IfSome_then}
 use mathlib.Core.Path.{◌≡◌, refl, sym, ap, ◌∙◌, subst}
 use mathlib.Core.Logic.{◌⊎◌, inl, inr}
 use mathlib.Core.Bool.{Bool, true, false, not, ◌||◌}
@@ -12,25 +14,18 @@ use lib.Dec.{eqb}
 use lib.ListN.{length, get_or, set}
 use Rattle.lists.specs.Tests.{same}
 use Rattle.lists.specs.Scans.{keep}
-use Rattle.lists.specs.declared.Found.TheVariants.{At, Missing}
 use Rattle.lists.proofs.Bools.{or-true, or-false, same_true, differ}
 use Rattle.piece_faces.specs.Bits.{span, vertex_of, related, related_but, first_of, Closed}
 use Rattle.nesting.specs.Contents.{Line, line, listed, fresh, each, lines}
 use Rattle.nesting.specs.Claims.{Part}
 use Rattle.nesting.proofs.Walks.{each_none, each_alike, depth_alike, stop, Sound}
-use Rattle.outline_rows.specs.declared.Listing.{Listing}
-use Rattle.outline_rows.specs.declared.Listing.TheVariants.{Left, Twice}
-use Rattle.outline_rows.specs.Listing.{SoFar, Room, AtMost, Told, Lists, listed_from}
+use Rattle.outline_rows.specs.Listing.{SoFar, Room, Told, Lists, listed_from}
 use Rattle.outline_rows.proofs.Rows.{First, rows_end, rows_first, row_in}
 use Rattle.outline_rows.proofs.States.{sound, one_more}
 
-at_most : (k left : ℕ) (r : Listing) → k ≤ left → AtMost k r → AtMost left r
-at_most k left (Left j) h m = omega arith
-at_most k left Twice h m = m
-
 -- what is left is no more
-pub left_at-most : {n k : ℕ} {r : Listing} → r ≡ Left k → AtMost n r → k ≤ n
-left_at-most {n} e m = subst (AtMost n) e m
+pub left_at-most : {n k : ℕ} {r : Left ℕ} → r ≡ Some k → IfSome r (λ k. k ≤ n) → k ≤ n
+left_at-most {n} e m = subst (λ r. IfSome r (λ k. k ≤ n)) e m
 
 flip : (b c : Bool) → not b ≡ c → b ≡ not c
 flip true c e = ap not e
@@ -90,13 +85,17 @@ alike g b x zero h k k' all closed = absurd (omega arith)
 alike g b x (suc d) h k k' all closed =
     each_alike (related g) all closed k k' (depth_alike (related g) all closed k k') b x d
 
+-- the row of the next that is found
+pub next_row : (g : List ℕ) (v from led y : ℕ) → Some y ≡ first_of (related_but g v from led) → y < span
+next_row g v from led y e = (rows_first g v led from y (sym e)).0
+
 -- ---- what is listed under x, of kind b, from row `from` on; v is the place of x
 
 module _ (b : Bool) {g : List ℕ} {x d left : ℕ} {notes seen : List ℕ} (room : Room g x d left notes seen) (from led : ℕ)
     (v : ℕ) (at : v ≡ vertex_of b x) where
   -- nothing more is related
-  pub told_end : first_of (related_but g v from led) ≡ Missing
-      → Lists g b x from led d left notes seen notes seen (Left left)
+  pub told_end : first_of (related_but g v from led) ≡ None
+      → Lists g b x from led d left notes seen notes seen (Some left)
   told_end e = record {
     fewer = omega arith;
     told = λ all ls closed s. (
@@ -108,12 +107,9 @@ module _ (b : Bool) {g : List ℕ} {x d left : ℕ} {notes seen : List ℕ} (roo
   }
 
   -- y is the next, with its place u
-  module _ (y : ℕ) (found : first_of (related_but g v from led) ≡ At y) where
+  module _ (y : ℕ) (found : first_of (related_but g v from led) ≡ Some y) where
     first : First g (vertex_of b x) led from y
     first = rows_first g (vertex_of b x) led from y (ap (λ w. first_of (related_but g w from led)) (sym at) ∙ found)
-
-    pub found_row : y < span
-    found_row = first.0
 
     near : (all : List Part) → Closed g all → Memᴰ (not b, y) all
     near all closed = closed b x y
@@ -137,7 +133,7 @@ module _ (b : Bool) {g : List ℕ} {x d left : ℕ} {notes seen : List ℕ} (roo
           ∙ ap (λ i. same (get_or seen i 0) 0) (sym at_y) ∙ e)
 
       -- y is listed already, or nothing is left
-      pub told_twice : stops left (get_or seen u 0) ≡ true → Lists g b x from led d left notes seen notes seen Twice
+      pub told_twice : stops left (get_or seen u 0) ≡ true → Lists g b x from led d left notes seen notes seen None
       told_twice test = record {
         fewer = tt;
         told = λ all ls closed s.
@@ -149,7 +145,7 @@ module _ (b : Bool) {g : List ℕ} {x d left : ℕ} {notes seen : List ℕ} (roo
       -- y is noted, and a call has listed what is under it
       module _ (test : stops left (get_or seen u 0) ≡ false) {notes₁ seen₁ : List ℕ}
           (noted : (notes₁ ≡ set (set notes (left * 2 - 2) d) (left * 2 - 1) u) × (seen₁ ≡ set seen u 1))
-          {notes' seen' : List ℕ} {r₁ : Listing}
+          {notes' seen' : List ℕ} {r₁ : Left ℕ}
           (call : Lists g (not b) y 0 x (d + 1) (left - 1) notes₁ seen₁ notes' seen' r₁) where
         new : stops left (get_or seen u 0) ≡ false → (1 ≤ left) × (same (get_or seen u 0) 0 ≡ true)
         new = stops_not left (get_or seen u 0)
@@ -161,7 +157,7 @@ module _ (b : Bool) {g : List ℕ} {x d left : ℕ} {notes seen : List ℕ} (roo
         goes_on all ls s = split ls ∙ ap (each (under left) after)
             (opened (related g) (not b) x y d ls left (new test).0 (mark s true (new test).1))
 
-        inner : (r : Listing) → r₁ ≡ r → (all : List Part) (ls : List Line) → Closed g all
+        inner : (r : Left ℕ) → r₁ ≡ r → (all : List Part) (ls : List Line) → Closed g all
             → SoFar all left notes seen ls
             → Told all notes' seen' (listed_from g (not b) y 0 x (d + 1) (left - 1) (ls ++ line d (not b) y ∷ [])) r
         inner r e all ls closed s =
@@ -174,21 +170,21 @@ module _ (b : Bool) {g : List ℕ} {x d left : ℕ} {notes seen : List ℕ} (roo
             room.marks (near all closed) (mark s true (new test).1)))))
 
         -- one would be listed twice there
-        pub told_twice_under : r₁ ≡ Twice → Lists g b x from led d left notes seen notes' seen' Twice
+        pub told_twice_under : r₁ ≡ None → Lists g b x from led d left notes seen notes' seen' None
         told_twice_under e = record {
           fewer = tt;
-          told = λ all ls closed s. goes_on all ls s ∙ ap (each (under left) after) (inner Twice e all ls closed s)
+          told = λ all ls closed s. goes_on all ls s ∙ ap (each (under left) after) (inner None e all ls closed s)
               ∙ each_none (under left) after;
         }
 
         -- then those after y
-        pub told_more : (k : ℕ) → r₁ ≡ Left k → {notes'' seen'' : List ℕ} {r : Listing}
+        pub told_more : (k : ℕ) → r₁ ≡ Some k → {notes'' seen'' : List ℕ} {r : Left ℕ}
             → Lists g b x (y + 1) led d k notes' seen' notes'' seen'' r
             → Lists g b x from led d left notes seen notes'' seen'' r
         told_more k e {notes''} {seen''} {r} rest = let h : k ≤ left - 1 = left_at-most e call.fewer in record {
-          fewer = at_most k left r (omega arith) rest.fewer;
+          fewer = IfSome_then r rest.fewer (λ j l. omega arith);
           told = λ all ls closed s.
-              let i = inner (Left k) e all ls closed s in
+              let i = inner (Some k) e all ls closed s in
               subst (λ o. Told all notes'' seen'' o r)
               (sym (goes_on all ls s ∙ ap (each (under left) after) i.1
               ∙ alike g b x d room.under left k all closed after

@@ -1,5 +1,5 @@
 -- Faces and pieces listed by rows: the lines so far, as they are noted, and what the functions leave.
-use Rattle.std.specs.Prelude.{◌≡◌, Bool, true, false, not, ℕ, suc, ◌+◌, ◌*◌, ◌-◌, ◌/◌, ◌%◌, ◌<◌, ◌≤◌, eqb, length, get_or}
+use Rattle.std.specs.Prelude.{◌≡◌, Bool, true, false, not, ℕ, suc, ◌+◌, ◌*◌, ◌-◌, ◌/◌, ◌%◌, ◌<◌, ◌≤◌, length, get_or, Option as Left, Some, None, IfSome}
 use mathlib.Core.List.{List, [], map, Memᴰ}
 use Rattle.std.proofs.Math.Option.{Option, none, some}
 use Rattle.lists.specs.Tests.{same}
@@ -9,8 +9,6 @@ use Rattle.map.specs.Limits.{max_nodes, max_faces}
 use Rattle.piece_faces.specs.Bits.{span, cells, vertex_of, related_but, related, Closed}
 use Rattle.nesting.specs.Contents.{Line, line, listed, each, lines, complete}
 use Rattle.nesting.specs.Claims.{Part, part_of}
-use Rattle.outline_rows.specs.declared.Listing.{Listing}
-use Rattle.outline_rows.specs.declared.Listing.TheVariants.{Left, Twice}
 
 -- faces and pieces, at most
 abbrev pub most_parts : ℕ
@@ -46,28 +44,19 @@ pub record Room (g : List ℕ) (x d left : ℕ) (notes seen : List ℕ) : Type 0
   pub lines : left * 2 ≤ length notes
   pub marks : length seen ≡ span * 2
 
-abbrev pub AtMost : ℕ → Listing → Type 0
-AtMost n (Left k) = k ≤ n
-AtMost n Twice = Unit {0}
-
 -- the lines with those that were to be listed, noted; or one would be listed twice
-abbrev pub Told : List Part → List ℕ → List ℕ → Option (List Line) → Listing → Type 0
-Told all notes seen o (Left k) = (after : List Line) × (o ≡ some after) × SoFar all k notes seen after
-Told all notes seen o Twice = o ≡ none
+abbrev pub Told : List Part → List ℕ → List ℕ → Option (List Line) → Left ℕ → Type 0
+Told all notes seen o (Some k) = (after : List Line) × (o ≡ some after) × SoFar all k notes seen after
+Told all notes seen o None = o ≡ none
 
 -- what a call leaves: no more than was left, and the lines from row `from` on are listed
-pub record Lists (g : List ℕ) (b : Bool) (x from led d left : ℕ) (notes seen notes' seen' : List ℕ) (r : Listing)
+pub record Lists (g : List ℕ) (b : Bool) (x from led d left : ℕ) (notes seen notes' seen' : List ℕ) (r : Left ℕ)
     : Type 0 where
-  pub fewer : AtMost left r
+  pub fewer : IfSome r (λ k. k ≤ left)
   pub told : (all : List Part) (ls : List Line) → Closed g all → SoFar all left notes seen ls
       → Told all notes' seen' (listed_from g b x from led d left ls) r
 
 -- ---- all of them
-
--- nothing is left
-abbrev pub none_left : Listing → Bool
-none_left (Left k) = eqb k 0
-none_left Twice = false
 
 -- a matrix of so many faces and pieces in all, face row 0 among them
 pub record AllParts (g : List ℕ) (parts : ℕ) : Type 0 where

@@ -3,9 +3,8 @@
 #![tactic(auto)]
 
 ghost use Rattle.std.specs.Prelude.{◌≡◌, true, false, ◌*◌, ◌-◌, ◌<◌, ◌≤◌, length, set};
-ghost use Rattle.outline_rows.specs.Listing.{Room, Lists, none_left, AllParts, Outlined};
+ghost use Rattle.outline_rows.specs.Listing.{Room, Lists, AllParts, Outlined};
 
-use lists::Found;
 use map::Map;
 
 // Faces and pieces, at most: no piece is without a node.
@@ -13,13 +12,6 @@ const PARTS: usize = Map::FACES + Map::NODES;
 
 // The numbers of the notes: two a line.
 pub const NOTES: usize = 2 * PARTS;
-
-// How many faces and pieces are left to list; or one would be listed twice.
-#[derive(Clone, Copy)]
-pub enum Listing {
-    Left(usize),
-    Twice,
-}
 
 // Notes the line of vertex v behind those that are left: the notes fill from the back, so that `left` is all that has
 // to be counted.
@@ -35,7 +27,8 @@ fn note(notes: &mut [u16], seen: &mut [u8], left: usize, depth: usize, v: usize)
 }
 
 // Lists the pieces in face row f from piece row `from` on, but the one that led to it, each with what is under it.
-// Where none is left to list, a further one would be listed twice.
+// Returns how many faces and pieces are left to list, or None where one would be listed twice: where none is left, any
+// further one would be.
 #[cycle(list_faces_list_pieces)]
 fn list_pieces(
     graph: &[u64],
@@ -46,23 +39,19 @@ fn list_pieces(
     left: usize,
     notes: &mut [u16],
     seen: &mut [u8],
-) -> Listing
+) -> Option<usize>
     requires { Room graph.now f depth left notes.old seen.old }
     ensures { Lists graph.now false f from led depth left notes.old seen.old
         notes.new seen.new result }
 {
-    let found = piece_faces::next_related(graph, f * 2, from, led);
-    let Found::At(p) = found else {
-        return Listing::Left(left);
+    let Some(p) = piece_faces::next_related(graph, f * 2, from, led) else {
+        return Some(left);
     };
     if (left == 0) | (seen[p * 2 + 1] != 0) {
-        return Listing::Twice;
+        return None;
     }
     note(notes, seen, left, depth, p * 2 + 1);
-    let under = list_faces(graph, p, 0, f, depth + 1, left - 1, notes, seen);
-    let Listing::Left(k) = under else {
-        return Listing::Twice;
-    };
+    let k = list_faces(graph, p, 0, f, depth + 1, left - 1, notes, seen)?;
     list_pieces(graph, f, p + 1, led, depth, k, notes, seen)
 }
 
@@ -78,34 +67,20 @@ fn list_faces(
     left: usize,
     notes: &mut [u16],
     seen: &mut [u8],
-) -> Listing
+) -> Option<usize>
     requires { Room graph.now p depth left notes.old seen.old }
     ensures { Lists graph.now true p from led depth left notes.old seen.old
         notes.new seen.new result }
 {
-    let found = piece_faces::next_related(graph, p * 2 + 1, from, led);
-    let Found::At(f) = found else {
-        return Listing::Left(left);
+    let Some(f) = piece_faces::next_related(graph, p * 2 + 1, from, led) else {
+        return Some(left);
     };
     if (left == 0) | (seen[f * 2] != 0) {
-        return Listing::Twice;
+        return None;
     }
     note(notes, seen, left, depth, f * 2);
-    let under = list_pieces(graph, f, 0, p, depth + 1, left - 1, notes, seen);
-    let Listing::Left(k) = under else {
-        return Listing::Twice;
-    };
+    let k = list_pieces(graph, f, 0, p, depth + 1, left - 1, notes, seen)?;
     list_faces(graph, p, f + 1, led, depth, k, notes, seen)
-}
-
-// Whether nothing is left.
-fn is_complete(listing: Listing) -> bool
-    ensures { result ≡ none_left listing }
-{
-    match listing {
-        Listing::Left(k) => k == 0,
-        Listing::Twice => false,
-    }
 }
 
 // Lists all from face row 0 on: whether each of so many faces and pieces is listed, and none twice. Nothing led to face
@@ -116,7 +91,7 @@ pub fn list_all(graph: &[u64], parts: usize, notes: &mut [u16]) -> bool
 {
     let mut seen = [0u8; 2 * piece_faces::SPAN];
     note(notes, &mut seen, parts, 0, 0);
-    let listing = list_pieces(
+    let left = list_pieces(
         graph,
         0,
         0,
@@ -126,5 +101,5 @@ pub fn list_all(graph: &[u64], parts: usize, notes: &mut [u16]) -> bool
         notes,
         &mut seen,
     );
-    is_complete(listing)
+    left == Some(0)
 }

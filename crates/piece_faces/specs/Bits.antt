@@ -1,11 +1,9 @@
 -- A relation between piece rows and face rows as a matrix of bits, held in words of 64, the lowest bit of a word first.
-use Rattle.std.specs.Prelude.{◌≡◌, Bool, true, false, not, ◌&&◌, ◌||◌, ℕ, ◌+◌, ◌*◌, ◌-◌, ◌/◌, ◌%◌, ◌^◌, ◌<◌, length, get_or}
+use Rattle.std.specs.Prelude.{◌≡◌, Bool, true, false, not, ◌&&◌, ◌||◌, ℕ, ◌+◌, ◌*◌, ◌-◌, ◌/◌, ◌%◌, ◌^◌, ◌<◌, length, get_or, Option, Some, None}
 use mathlib.Core.List.{List, [], ◌∷◌, Memᴰ}
 use Rattle.lists.specs.Tests.{same, bit}
 use Rattle.lists.specs.Scans.{keep}
 use Rattle.lists.specs.Tables.{table}
-use Rattle.lists.specs.declared.Found.{Found}
-use Rattle.lists.specs.declared.Found.TheVariants.{At, Missing}
 
 -- rows of faces and of pieces are below this
 abbrev pub span : ℕ
@@ -55,6 +53,6 @@ abbrev pub Closed : List ℕ → List (Bool × ℕ) → Type 0
 Closed g all = (b : Bool) (x y : ℕ) → Memᴰ y (related g b x) → Memᴰ (not b, y) all
 
 -- the first, where there is one
-abbrev pub first_of : List ℕ → Found
-first_of [] = Missing
-first_of (x ∷ xs) = At x
+abbrev pub first_of : List ℕ → Option ℕ
+first_of [] = None
+first_of (x ∷ xs) = Some x

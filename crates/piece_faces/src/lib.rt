@@ -7,8 +7,6 @@ ghost use Rattle.std.specs.Prelude.{◌≡◌, ◌&&◌, ◌||◌, ℕ, ◌+◌,
 ghost use Rattle.lists.specs.Tests.{same};
 ghost use Rattle.piece_faces.specs.Bits.{span, words, cells, bit_at, Joined, first_of, related_but};
 
-use lists::Found;
-
 // Rows of faces and of pieces are below this: the first number of whole words that holds the map's limits.
 pub const SPAN: usize = 1024;
 
@@ -27,7 +25,7 @@ fn set_bit(graph: &mut [u64], v: usize, y: usize)
         → bit_at graph.new w z ≡ (bit_at graph.old w z || same w v && same z y) }
 {
     let at = v * WORDS + y / WORD;
-    graph[at] = graph[at] | (1 << (y % WORD));
+    graph[at] |= 1 << (y % WORD);
 }
 
 // Relates piece row p to face row f.
@@ -41,7 +39,7 @@ pub fn relate(graph: &mut [u64], p: usize, f: usize)
 
 // The first bit of vertex v from `from` on, but bit `but`: found, or missing. A word without further bits is passed at
 // once.
-pub fn next_related(graph: &[u64], v: usize, from: usize, but: usize) -> Found
+pub fn next_related(graph: &[u64], v: usize, from: usize, but: usize) -> Option<usize>
     requires { v * words + words ≤ length graph.now }
     ensures { result ≡ first_of (related_but graph.now v from but) }
 {
@@ -51,11 +49,12 @@ pub fn next_related(graph: &[u64], v: usize, from: usize, but: usize) -> Found
         if rest == 0 {
             y += WORD - y % WORD;
         } else {
-            if (rest % 2 == 1) & (y != but) {
-                return Found::At(y);
+            y += rest.trailing_zeros() as usize;
+            if y != but {
+                return Some(y);
             }
             y += 1;
         }
     }
-    Found::Missing
+    None
 }

@@ -1,8 +1,6 @@
 -- Labels of node rows: each leads to a row of its own piece, and in the end to that of the piece's lowest node.
-use Rattle.std.specs.Prelude.{◌≡◌, true, cond, ◌&&◌, List, ℕ, zero, suc, ◌≤◌, ◌<◌, ltb, ℤ, length, get_or}
+use Rattle.std.specs.Prelude.{◌≡◌, true, cond, ◌&&◌, List, ℕ, zero, suc, ◌≤◌, ◌<◌, ltb, ℤ, length, get_or, Option, Some, None}
 use Rattle.lists.specs.Scans.{all_of}
-use Rattle.lists.specs.declared.Found.{Found}
-use Rattle.lists.specs.declared.Found.TheVariants.{At, Missing}
 use Rattle.planar_maps.specs.Map.{Arc}
 use Rattle.planar_maps.specs.Pieces.{label}
 use Rattle.map.specs.Limits.{max_nodes, max_edges}
@@ -28,9 +26,9 @@ pub record Labelled (arcs : List Arc) (nodes : List ℤ) (n : ℕ) (labels : Lis
   pub lowest : (i : ℕ) → i < n → (node_at nodes (get_or labels i 0)).number ≡ piece_at arcs nodes i
 
 -- the label of the row that is found
-abbrev pub label_of : List ℕ → Found → ℕ
-label_of labels (At i) = get_or labels i 0
-label_of labels Missing = 0
+abbrev pub label_of : List ℕ → Option ℕ → ℕ
+label_of labels (Some i) = get_or labels i 0
+label_of labels None = 0
 
 -- ---- the functions below
 

@@ -11,8 +11,6 @@ ghost use Rattle.map.specs.Darts.{arcs};
 ghost use Rattle.map_rows.specs.Rows.{NodeRows, node_at, node_map, edge_map};
 ghost use Rattle.piece_labels.specs.Labels.{Ended, Labelled, label_of, Leading, root_from};
 
-use lists::Found;
-
 // The row where the labels end that lead on from row j, each to a lower row.
 fn root_of(labels: &[u16], j: u16) -> u16
     requires { j < length labels.now }
@@ -31,8 +29,7 @@ fn row_of(nodes: &[i64], n: usize, index: &[u16], node: i64) -> u16
         × (has_node (node_map nodes.now n) (nat_abs node) ≡ true) × (length index.now ≡ 4096) }
     ensures { (result < n) × (node ≡ pos (node_at nodes.now result).number) }
 {
-    let found = tables::find_indexed(nodes, map::NODE_WIDTH, n, node, index);
-    let Found::At(i) = found else {
+    let Some(i) = tables::find_indexed(nodes, map::NODE_WIDTH, n, node, index) else {
         return 0;
     };
     i as u16
@@ -43,8 +40,8 @@ fn label_apart(nodes: &[i64], n: usize, labels: &mut [u16])
     requires { (n ≤ max_nodes) × (length labels.old ≡ n) }
     ensures { Leading [] nodes.now n labels.new }
 {
-    for i in 0..n {
-        labels[i] = i as u16;
+    for (i, label) in labels.iter_mut().enumerate() {
+        *label = i as u16;
     }
 }
 
@@ -72,11 +69,7 @@ fn join_ends(
         labels,
         row_of(nodes, n, index, edges[j * map::EDGE_WIDTH + map::END]),
     );
-    if a < b {
-        labels[b as usize] = a;
-    } else {
-        labels[a as usize] = b;
-    }
+    labels[a.max(b) as usize] = a.min(b);
 }
 
 // Joins the pieces of the nodes of all edges, the last edge first.
@@ -128,8 +121,7 @@ pub fn label_of(nodes: &[i64], n: usize, labels: &[u16], node: i64) -> u16
     ensures { result ≡ label_of labels.now (place (same_z node) 0
         (column node_width nodes.now n)) }
 {
-    let found = tables::find_row(nodes, map::NODE_WIDTH, n, node);
-    let Found::At(i) = found else {
+    let Some(i) = tables::find_row(nodes, map::NODE_WIDTH, n, node) else {
         return 0;
     };
     labels[i]

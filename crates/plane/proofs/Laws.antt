@@ -1,12 +1,13 @@
 -- Laws of the plane that the functions' proofs share. Assumes nothing.
 use mathlib.Core.Path.{◌≡◌, refl, sym, ap, ◌∙◌}
-use mathlib.Core.Bool.{Bool, true}
+use mathlib.Core.Bool.{Bool, true, ◌&&◌}
 use Prim.Native.Nat.{ℕ, ◌+◌, ◌*◌, ◌≤◌, ◌<◌}
 use native.Mathlib.Nat.{mul-le-mul}
 use native.Mathlib.Omega.{arith}
 use lib.IntN.{ℤ, pos, ◌-ℤ◌}
 use mathlib.Core.List.{[], ◌∷◌}
-use lib.Dec.{T}
+use lib.Dec.{T, eqb}
+use denote.Enum.Bare.{sameb}
 use Rattle.integers.specs.Solver.{Expr, ◌⊕◌, ◌⊖◌, ◌⊗◌, ◌≐◌, Vars, equation, valid, Holds, holds}
 use Rattle.integers.specs.Order.{Sign, negative, null, positive, sgn, sgn-sub-lt, sgn_sub_gt, sgn_sub_eq}
 use Rattle.lists.specs.Tests.{same}
@@ -14,8 +15,9 @@ use Rattle.lists.proofs.Bools.{same_true, and-true}
 use Rattle.plane.specs.declared.Point.{Point}
 use Rattle.plane.specs.declared.Turn.{Turn}
 use Rattle.plane.specs.declared.Turn.TheVariants.{Left, Straight, Right}
+use Rattle.plane.specs.contracts.Turn.{the_type}
 use Rattle.plane.specs.Points.{same_point}
-use Rattle.plane.specs.Areas.{area, turn_of, turn, is_left, straight, is_null, is_positive}
+use Rattle.plane.specs.Areas.{area, turn_of, turn, is_null, is_positive}
 use Rattle.plane.specs.Directions.{way_to, cross}
 
 -- a point is its coordinates
@@ -101,23 +103,28 @@ module _ (z : ℤ) (p n : ℕ) (e : pos p -ℤ pos n ≡ z) where
   unfolding turn
   turn-straight h k = ap turn_of (sym (sign_equal h k))
 
+-- two points compared
+pub point_eq : (p q : Point) → eqb p.x q.x && eqb p.y q.y ≡ same_point p q
+unfolding same_point same
+point_eq p q = refl
+
 -- straight on is 0, left is positive
-straight_of : (s : Sign) → straight (turn_of s) ≡ is_null s
+straight_of : (s : Sign) → sameb the_type (turn_of s) Straight ≡ is_null s
 straight_of negative = refl
 straight_of null = refl
 straight_of positive = refl
 
-left_of_lem : (s : Sign) → is_left (turn_of s) ≡ is_positive s
+left_of_lem : (s : Sign) → sameb the_type (turn_of s) Left ≡ is_positive s
 left_of_lem negative = refl
 left_of_lem null = refl
 left_of_lem positive = refl
 
 -- b is the answer of a test of the turn t of z
 module _ (z : ℤ) (t : Turn) (b : Bool) (e : t ≡ turn z) where
-  pub null_is : b ≡ straight t → b ≡ is_null (sgn z)
+  pub null_is : b ≡ sameb the_type t Straight → b ≡ is_null (sgn z)
   unfolding turn
-  null_is h = h ∙ ap straight e ∙ straight_of (sgn z)
+  null_is h = h ∙ ap (λ (s : Turn). sameb the_type s Straight) e ∙ straight_of (sgn z)
 
-  pub positive_is : b ≡ is_left t → b ≡ is_positive (sgn z)
+  pub positive_is : b ≡ sameb the_type t Left → b ≡ is_positive (sgn z)
   unfolding turn
-  positive_is h = h ∙ ap is_left e ∙ left_of_lem (sgn z)
+  positive_is h = h ∙ ap (λ (s : Turn). sameb the_type s Left) e ∙ left_of_lem (sgn z)

@@ -2,31 +2,34 @@
 // product is the difference of two sums of products, and its sign is how the two sums compare.
 #![tactic(auto)]
 
-ghost use Rattle.std.specs.Prelude.{◌≡◌, ◌+◌, ◌*◌, ◌≤◌, ◌<◌, min, max};
-ghost use Rattle.plane.specs.Points.{InRange, same_point};
-ghost use Rattle.plane.specs.Areas.{area, turn, straight};
+ghost use Rattle.std.specs.Prelude.{◌≡◌, ◌+◌, ◌*◌, ◌≤◌, ◌<◌, pos, ◌-ℤ◌};
+ghost use Rattle.integers.specs.Order.{sgn};
+ghost use Rattle.plane.specs.Points.{InRange};
+ghost use Rattle.plane.specs.Areas.{area, turn, is_null};
 ghost use Rattle.plane.specs.Segments.{overlap, overlap_more, apart, straddle, meets, on_segment, straight_between};
 ghost use Rattle.plane.specs.Segments.{stretches, ended, contact};
+
+use std::cmp::Ordering;
 
 // The greatest coordinate.
 pub const COORDINATE: i64 = 1048575;
 
-#[derive(Clone, Copy)]
+#[derive(Clone, Copy, PartialEq, Eq)]
 pub struct Point {
     pub x: u64,
     pub y: u64,
 }
 
 // The way from a by b to c.
-#[derive(Clone, Copy)]
+#[derive(Clone, Copy, PartialEq, Eq)]
 pub enum Turn {
     Left,
     Straight,
     Right,
 }
 
-// How two segments meet: in no point, in one, in one that is inner to both, in more than one.
-#[derive(Clone, Copy)]
+// How two segments meet: in no point, in one, in one that is inner to both, in more than one; the graver the greater.
+#[derive(Clone, Copy, PartialEq, Eq, PartialOrd, Ord)]
 pub enum Contact {
     None,
     Touch,
@@ -55,9 +58,18 @@ pub fn area2(a: Point, b: Point, c: Point) -> i64
     requires { (InRange a) × (InRange b) × (InRange c) }
     ensures { result ≡ area a b c }
 {
-    let p = plus_part(a, b, c);
-    let n = plus_part(b, a, c);
-    (p as i64) - (n as i64)
+    plus_part(a, b, c) as i64 - plus_part(b, a, c) as i64
+}
+
+// The sign of `plus` less `minus`, as a turn.
+pub fn turn_of(plus: u64, minus: u64) -> Turn
+    ensures { result ≡ turn (pos plus -ℤ pos minus) }
+{
+    match plus.cmp(&minus) {
+        Ordering::Less => Turn::Right,
+        Ordering::Equal => Turn::Straight,
+        Ordering::Greater => Turn::Left,
+    }
 }
 
 // The sign of the doubled area.
@@ -65,47 +77,22 @@ pub fn orient(a: Point, b: Point, c: Point) -> Turn
     requires { (InRange a) × (InRange b) × (InRange c) }
     ensures { result ≡ turn (area a b c) }
 {
-    let p = plus_part(a, b, c);
-    let n = plus_part(b, a, c);
-    if n < p {
-        return Turn::Left;
-    }
-    if p < n {
-        return Turn::Right;
-    }
-    Turn::Straight
-}
-
-// The lesser of two numbers.
-pub fn least(a: u64, b: u64) -> u64
-    ensures { result ≡ min a b }
-{
-    if a < b { a } else { b }
-}
-
-// The greater of two numbers.
-pub fn greatest(a: u64, b: u64) -> u64
-    ensures { result ≡ max a b }
-{
-    if a < b { b } else { a }
+    turn_of(plus_part(a, b, c), plus_part(b, a, c))
 }
 
 // Whether the ranges of a, b and of c, d have a number in common.
 pub fn ranges_overlap(a: u64, b: u64, c: u64, d: u64) -> bool
     ensures { result ≡ overlap a b c d }
 {
-    if greatest(c, d) < least(a, b) {
-        return false;
-    }
-    least(c, d) <= greatest(a, b)
+    a.min(b) <= c.max(d) && c.min(d) <= a.max(b)
 }
 
 // Whether they have more than one number in common.
 pub fn ranges_overlap_more(a: u64, b: u64, c: u64, d: u64) -> bool
     ensures { result ≡ overlap_more a b c d }
 {
-    let low = greatest(least(a, b), least(c, d));
-    let high = least(greatest(a, b), greatest(c, d));
+    let low = a.min(b).max(c.min(d));
+    let high = a.max(b).min(c.max(d));
     low < high
 }
 
@@ -113,19 +100,7 @@ pub fn ranges_overlap_more(a: u64, b: u64, c: u64, d: u64) -> bool
 fn turns_apart(s: Turn, t: Turn) -> bool
     ensures { result ≡ apart s t }
 {
-    match s {
-        Turn::Left => match t {
-            Turn::Left => false,
-            Turn::Straight => true,
-            Turn::Right => true,
-        },
-        Turn::Straight => true,
-        Turn::Right => match t {
-            Turn::Left => true,
-            Turn::Straight => true,
-            Turn::Right => false,
-        },
-    }
+    s != t || s == Turn::Straight
 }
 
 // Whether c and d do not lie strictly on one side of the line a b.
@@ -141,23 +116,10 @@ pub fn segments_meet(a: Point, b: Point, c: Point, d: Point) -> bool
     requires { (InRange a) × (InRange b) × (InRange c) × (InRange d) }
     ensures { result ≡ meets a b c d }
 {
-    if !ranges_overlap(a.x, b.x, c.x, d.x) {
-        return false;
-    }
-    if !ranges_overlap(a.y, b.y, c.y, d.y) {
-        return false;
-    }
-    if !straddles(a, b, c, d) {
-        return false;
-    }
-    straddles(c, d, a, b)
-}
-
-// Whether p and q are one point.
-pub fn same_point(p: Point, q: Point) -> bool
-    ensures { result ≡ same_point p q }
-{
-    (p.x == q.x) & (p.y == q.y)
+    ranges_overlap(a.x, b.x, c.x, d.x)
+        && ranges_overlap(a.y, b.y, c.y, d.y)
+        && straddles(a, b, c, d)
+        && straddles(c, d, a, b)
 }
 
 // Whether p lies on the segment a b.
@@ -173,24 +135,15 @@ pub fn straight_between(a: Point, p: Point, b: Point) -> bool
     requires { (InRange a) × (InRange p) × (InRange b) }
     ensures { result ≡ straight_between a p b }
 {
-    if same_point(a, p) {
-        return false;
-    }
-    if same_point(p, b) {
-        return false;
-    }
-    on_segment(p, a, b)
+    a != p && p != b && on_segment(p, a, b)
 }
 
-// Whether the turn is straight on.
-pub fn is_straight(t: Turn) -> bool
-    ensures { result ≡ straight t }
+// Whether a, b and c lie on one line.
+fn collinear(a: Point, b: Point, c: Point) -> bool
+    requires { (InRange a) × (InRange b) × (InRange c) }
+    ensures { result ≡ is_null (sgn (area a b c)) }
 {
-    match t {
-        Turn::Left => false,
-        Turn::Straight => true,
-        Turn::Right => false,
-    }
+    orient(a, b, c) == Turn::Straight
 }
 
 // Whether the segments a b and c d lie on one line with more than one common point.
@@ -198,16 +151,9 @@ pub fn segments_stretch(a: Point, b: Point, c: Point, d: Point) -> bool
     requires { (InRange a) × (InRange b) × (InRange c) × (InRange d) }
     ensures { result ≡ stretches a b c d }
 {
-    if !is_straight(orient(a, b, c)) {
-        return false;
-    }
-    if !is_straight(orient(a, b, d)) {
-        return false;
-    }
-    if ranges_overlap_more(a.x, b.x, c.x, d.x) {
-        return true;
-    }
-    ranges_overlap_more(a.y, b.y, c.y, d.y)
+    collinear(a, b, c)
+        && collinear(a, b, d)
+        && (ranges_overlap_more(a.x, b.x, c.x, d.x) || ranges_overlap_more(a.y, b.y, c.y, d.y))
 }
 
 // Whether an end of one of the segments a b and c d lies on the other.
@@ -215,16 +161,7 @@ fn end_touches(a: Point, b: Point, c: Point, d: Point) -> bool
     requires { (InRange a) × (InRange b) × (InRange c) × (InRange d) }
     ensures { result ≡ ended a b c d }
 {
-    if on_segment(a, c, d) {
-        return true;
-    }
-    if on_segment(b, c, d) {
-        return true;
-    }
-    if on_segment(c, a, b) {
-        return true;
-    }
-    on_segment(d, a, b)
+    on_segment(a, c, d) || on_segment(b, c, d) || on_segment(c, a, b) || on_segment(d, a, b)
 }
 
 // How the segments a b and c d meet.
@@ -233,13 +170,12 @@ pub fn contact_of(a: Point, b: Point, c: Point, d: Point) -> Contact
     ensures { result ≡ contact a b c d }
 {
     if !segments_meet(a, b, c, d) {
-        return Contact::None;
+        Contact::None
+    } else if segments_stretch(a, b, c, d) {
+        Contact::Stretch
+    } else if end_touches(a, b, c, d) {
+        Contact::Touch
+    } else {
+        Contact::Crossing
     }
-    if segments_stretch(a, b, c, d) {
-        return Contact::Stretch;
-    }
-    if end_touches(a, b, c, d) {
-        return Contact::Touch;
-    }
-    Contact::Crossing
 }

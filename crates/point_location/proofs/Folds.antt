@@ -3,7 +3,7 @@ use mathlib.Core.Path.{◌≡◌, refl, sym, ap, ◌∙◌}
 use mathlib.Core.Bool.{Bool, cond}
 use mathlib.Core.Logic.{inl, inr}
 use mathlib.Core.List.{List, [], ◌∷◌, map, flat_map}
-use mathlib.Core.Option.{Option, none, some}
+use Rattle.std.specs.Prelude.{Option, Some, None}
 use Prim.Native.Nat.{ℕ}
 use Rattle.lists.specs.Scans.{keep, fold}
 use Rattle.lists.proofs.Appends.{fold-append}
@@ -37,23 +37,23 @@ module _ {A S : Type 0} (g : S → A → S) where
 
 -- the face of the highest; 0 where there is none
 abbrev pub upper : Option Floor → ℕ
-upper none = 0
-upper (some f) = f.upper
+upper None = 0
+upper (Some f) = f.upper
 
-highest-fold : (x : ℕ) (f : Floor) (r : List Floor) → fold (over x) (some f) r ≡ some (highest x f r)
+highest-fold : (x : ℕ) (f : Floor) (r : List Floor) → fold (over x) (Some f) r ≡ Some (highest x f r)
 unfolding highest
 highest-fold x f [] = refl
 highest-fold x f (g ∷ r) = highest-fold x (cond (higher x g.segment f.segment) g f) r
 
-above_fold : (x : ℕ) (r : List Floor) → face_above x r ≡ upper (fold (over x) none r)
+above_fold : (x : ℕ) (r : List Floor) → face_above x r ≡ upper (fold (over x) None r)
 above_fold x [] = refl
 above_fold x (f ∷ r) = sym (ap upper (highest-fold x f r))
 
-pub face_fold : (m : Map) (p : Point) → face_of_point m p ≡ upper (fold (rowed p) none m.edges)
+pub face_fold : (m : Map) (p : Point) → face_of_point m p ≡ upper (fold (rowed p) None m.edges)
 unfolding face_of_point floors
 face_fold m p =
     above_fold p.x (floors m p)
     ∙ ap upper
-    (fold_flat (over p.x) (λ e. map (floor_of e) (keep (passes_below p) (segments e.curve))) none m.edges
+    (fold_flat (over p.x) (λ e. map (floor_of e) (keep (passes_below p) (segments e.curve))) None m.edges
     ∙ fold_same (λ t e. fold (over p.x) t (map (floor_of e) (keep (passes_below p) (segments e.curve)))) (rowed p)
-    (λ t e. fold_kept (over p.x) (floor_of e) (passes_below p) t (segments e.curve)) none m.edges)
+    (λ t e. fold_kept (over p.x) (floor_of e) (passes_below p) t (segments e.curve)) None m.edges)

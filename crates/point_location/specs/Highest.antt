@@ -1,6 +1,5 @@
 -- The highest segment below a point as a fold over all segments in order, and as the functions hold it.
-use Rattle.std.specs.Prelude.{cond, ℕ, ◌<◌, ltb}
-use Rattle.std.proofs.Math.Option.{Option, none, some}
+use Rattle.std.specs.Prelude.{cond, ℕ, ◌<◌, ltb, Option, Some, None, option_map}
 use Rattle.lists.specs.Scans.{fold}
 use Rattle.plane.specs.declared.Point.{Point}
 use Rattle.plane.specs.Points.{InRange}
@@ -10,12 +9,12 @@ use Rattle.map.specs.Rows.{Edge}
 use Rattle.map.specs.Faces.{Floor}
 use Rattle.point_location.specs.declared.Highest.{Highest}
 
--- what the functions hold as a floor; none yet where `some` is false
+-- what the functions hold as a floor
 abbrev pub floor : Highest → Floor
 floor h = record { segment = record { from = h.from; to = h.to }; upper = h.upper }
 
-abbrev pub highest_floor : Highest → Option Floor
-highest_floor h = cond h.some (some (floor h)) none
+abbrev pub highest_floor : Option Highest → Option Floor
+highest_floor = option_map floor
 
 -- a face that fits a number of the tables is below this
 abbrev pub face_bound : ℕ
@@ -29,8 +28,8 @@ pub record HighestFits (h : Highest) : Type 0 where
 
 -- g, where it is higher at x than the highest so far
 abbrev pub over : ℕ → Option Floor → Floor → Option Floor
-over x none g = some g
-over x (some f) g = some (cond (higher x g.segment f.segment) g f)
+over x None g = Some g
+over x (Some f) g = Some (cond (higher x g.segment f.segment) g f)
 
 -- a segment with its faces
 abbrev pub sided : ℕ → ℕ → Segment → Floor

@@ -1,8 +1,7 @@
 // The face of a point: the face on the upper side of the highest segment below it.
 #![tactic(auto)]
 
-ghost use Rattle.std.specs.Prelude.{◌≡◌, true, ◌+◌, ◌*◌, ◌≤◌, ◌<◌, pos, nat_abs, length, get_or};
-ghost use Rattle.std.proofs.Math.Option.{some};
+ghost use Rattle.std.specs.Prelude.{◌≡◌, true, Some, IfSome, ◌+◌, ◌*◌, ◌≤◌, ◌<◌, pos, nat_abs, length, get_or};
 ghost use Rattle.std.specs.Int.Signed.{non_neg};
 ghost use Rattle.lists.specs.Scans.{fold};
 ghost use Rattle.plane.specs.Points.{InRange, max_coordinate};
@@ -14,10 +13,9 @@ ghost use Rattle.point_location.specs.Highest.{rowed};
 
 use plane::Point;
 
-// The highest segment below a point so far, its ends ordered by x, and the face on its upper side.
+// The highest segment below a point, its ends ordered by x, and the face on its upper side.
 #[derive(Clone, Copy)]
 struct Highest {
-    some: bool,
     from: Point,
     to: Point,
     upper: u64,
@@ -26,62 +24,53 @@ struct Highest {
 // The segment a b with its ends ordered by x, and the face on its upper side.
 fn floor_of(a: Point, b: Point, left: u64, right: u64) -> Highest
     requires { (InRange a) × (InRange b) × (left < face_bound) × (right < face_bound) }
-    ensures { (result.some ≡ true) × (floor result ≡ sided left right (record { from = a; to = b })) × HighestFits result }
+    ensures { (floor result ≡ sided left right (record { from = a; to = b })) × HighestFits result }
 {
-    if a.x < b.x {
-        return Highest {
-            some: true,
-            from: a,
-            to: b,
-            upper: left,
-        };
-    }
-    if b.x < a.x {
-        return Highest {
-            some: true,
-            from: b,
-            to: a,
-            upper: right,
-        };
-    }
-    Highest {
-        some: true,
-        from: a,
-        to: b,
-        upper: right,
-    }
+    let (from, to) = if a.x <= b.x { (a, b) } else { (b, a) };
+    let upper = if a.x < b.x { left } else { right };
+    Highest { from, to, upper }
 }
 
 // The higher at x of the highest so far and g.
-fn higher_of(x: u64, h: Highest, g: Highest) -> Highest
-    requires { (x ≤ max_coordinate) × HighestFits h × HighestFits g × (g.some ≡ true) }
-    ensures { (highest_floor result ≡ over x (highest_floor h) (floor g)) × HighestFits result }
+fn higher_of(x: u64, h: Option<Highest>, g: Highest) -> Highest
+    requires { (x ≤ max_coordinate) × IfSome h HighestFits × HighestFits g }
+    ensures { (highest_floor (Some result) ≡ over x (highest_floor h) (floor g)) × HighestFits result }
 {
-    if h.some {
-        if !directions::is_higher(x, g.from, g.to, h.from, h.to) {
-            return h;
-        }
+    let Some(f) = h else {
+        return g;
+    };
+    if directions::is_higher(x, g.from, g.to, f.from, f.to) {
+        g
+    } else {
+        f
     }
-    g
 }
 
 // The highest after the segment a b with its faces, where that passes below p.
-fn floor_with(h: Highest, p: Point, a: Point, b: Point, left: u64, right: u64) -> Highest
-    requires { HighestFits h × (InRange p) × (InRange a) × (InRange b) × (left < face_bound) × (right < face_bound) }
-    ensures { (highest_floor result ≡ passed p left right (highest_floor h) (record { from = a; to = b })) ×
-        HighestFits result }
+fn floor_with(
+    h: Option<Highest>,
+    p: Point,
+    a: Point,
+    b: Point,
+    left: u64,
+    right: u64,
+) -> Option<Highest>
+    requires { IfSome h HighestFits × (InRange p) × (InRange a) × (InRange b) × (left < face_bound)
+        × (right < face_bound) }
+    ensures { (highest_floor result ≡ passed p left right (highest_floor h) (record { from = a; to = b }))
+        × IfSome result HighestFits }
 {
     if !directions::passes_below(p, a, b) {
         return h;
     }
-    higher_of(p.x, h, floor_of(a, b, left, right))
+    Some(higher_of(p.x, h, floor_of(a, b, left, right)))
 }
 
 // The highest after the segments of a curve with these faces.
-fn floor_along(h: Highest, p: Point, c: &[i64], left: u64, right: u64) -> Highest
-    requires { HighestFits h × (InRange p) × Run c.now × (left < face_bound) × (right < face_bound) }
+fn floor_along(h: Option<Highest>, p: Point, c: &[i64], left: u64, right: u64) -> Option<Highest>
+    requires { IfSome h HighestFits × (InRange p) × Run c.now × (left < face_bound) × (right < face_bound) }
     ensures { (highest_floor result ≡ fold (passed p left right) (highest_floor h)
-        (segments (curve_of c.now))) × HighestFits result }
+        (segments (curve_of c.now))) × IfSome result HighestFits }
 {
     let n = curves::point_count(c) - 1;
     let mut best = h;
@@ -103,14 +92,13 @@ fn face_at(edges: &[i64], j: usize) -> u64
     requires { (j < length edges.now) × (non_neg (get_or edges.now j (pos 0)) ≡ true) }
     ensures { (result ≡ nat_abs (get_or edges.now j (pos 0))) × (result < face_bound) }
 {
-    let z = edges[j];
-    z as u64
+    edges[j] as u64
 }
 
 // The highest after the segments of edge row i.
-fn floor_over(h: Highest, p: Point, edges: &[i64], i: usize) -> Highest
-    requires { HighestFits h × (InRange p) × EdgeRow edges.now i }
-    ensures { (highest_floor result ≡ rowed p (highest_floor h) (edge_at edges.now i)) × HighestFits result }
+fn floor_over(h: Option<Highest>, p: Point, edges: &[i64], i: usize) -> Option<Highest>
+    requires { IfSome h HighestFits × (InRange p) × EdgeRow edges.now i }
+    ensures { (highest_floor result ≡ rowed p (highest_floor h) (edge_at edges.now i)) × IfSome result HighestFits }
 {
     let left = face_at(edges, i * map::EDGE_WIDTH + map::LEFT);
     let right = face_at(edges, i * map::EDGE_WIDTH + map::RIGHT);
@@ -122,18 +110,12 @@ pub fn face_of_point(edges: &[i64], count: usize, p: Point) -> i64
     requires { EdgeRows edges.now count × InRange p }
     ensures { result ≡ pos (face_of_point (edge_map edges.now count) p) }
 {
-    let zero = Point { x: 0, y: 0 };
-    let mut best = Highest {
-        some: false,
-        from: zero,
-        to: zero,
-        upper: 0,
-    };
+    let mut best = None;
     for i in 0..count {
         best = floor_over(best, p, edges, i);
     }
-    if !best.some {
-        return 0;
+    match best {
+        Some(h) => h.upper as i64,
+        None => 0,
     }
-    best.upper as i64
 }

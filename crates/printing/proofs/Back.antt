@@ -3,7 +3,7 @@ use mathlib.Core.Path.{◌≡◌, refl, sym, ◌∙◌}
 use mathlib.Core.Logic.{inl, inr}
 use mathlib.Core.Bool.{Bool, true, false, cond, true≢false}
 use mathlib.Core.List.{List, [], ◌∷◌, ◌++◌}
-use mathlib.Core.Option.{some}
+use Rattle.std.specs.Prelude.{Some}
 use Prim.Native.Nat.{ℕ, zero, suc, ◌+◌, ◌*◌, ◌/◌, ◌%◌, ◌^◌, ◌≤◌, ◌<◌}
 use native.Mathlib.Nat.{pow-suc}
 use native.Mathlib.Omega.{arith}
@@ -15,11 +15,9 @@ use mir.Val.{SFits}
 use borrow.Author.Tests.{le-leb, lt-ltb, ltb-true, leb-true}
 use Rattle.lists.specs.Scans.{all_of}
 use Rattle.lists.proofs.Appends.{fold-append, all_append}
-use Rattle.lists.proofs.Bools.{which, same_refl}
+use Rattle.lists.proofs.Bools.{which, same_refl, same_false}
 use Rattle.text.specs.Lines.{digit, value_of, signed_number, word_number}
-use Rattle.text.specs.Steps.{with_digit, most}
-use Rattle.text.proofs.Values.{is_digit}
-use Rattle.text.proofs.Signs.{number_plain}
+use Rattle.text.proofs.Numerals.{with_digit, most, is_digit}
 use Rattle.printing.specs.Texts.{digits_of, natural_text, number_text}
 
 -- digits of a number that k of them hold
@@ -48,7 +46,7 @@ spelled (suc k) n h =
     ]
 
 read_back : (minus : Bool) (n : ℕ) (ds : List ℕ) → Spells n ds → n ≤ most minus → signed_number minus ds
-    ≡ some (cond minus (neg_ℤ (pos n)) (pos n))
+    ≡ Some (cond minus (neg_ℤ (pos n)) (pos n))
 read_back minus n [] s h = absurd (s.some_digit refl)
 read_back minus n (d ∷ ds) s h = rw (s.digits, s.value, le-leb n (most minus) h)
 
@@ -60,12 +58,17 @@ first_digit n (d ∷ ds) s =
       | inr e ↦ absurd (true≢false (sym s.digits ∙ rw e))
     ]
 
+number_plain : (w : List ℕ) → (length w ≡ 0 → ⊥) → (get_or w 0 0 ≡ 45 → ⊥) → (get_or w 0 0 ≡ 43 → ⊥) → word_number w
+    ≡ signed_number false w
+number_plain [] h m e = absurd (h refl)
+number_plain (b ∷ r) h m e = rw (same_false b 45 m, same_false b 43 e)
+
 -- 20 digits hold it
 spelled_natural : (n : ℕ) → n < 10 ^ 20 → Spells n (natural_text n)
 unfolding natural_text
 spelled_natural n h = spelled 19 n h
 
-pub printed_back : (z : ℤ) → SFits w64 z → word_number (number_text z) ≡ some z
+pub printed_back : (z : ℤ) → SFits w64 z → word_number (number_text z) ≡ Some z
 printed_back (pos n) f =
     let fits : n < 2 ^ 63 = f.sfits in
     let s = spelled_natural n (omega arith) in

@@ -1,5 +1,6 @@
--- `Digits`: the digits that are still to come and those that are put are the text of a number. `Rows`: a row's text,
+-- `Decimals`: the library's decimals are what is printed. `Puts`: a text copied into a buffer. `Rows`: a row's text,
 -- number by number. `Back`: what is printed is read back.
-pub mod Digits
+pub mod Decimals
+pub mod Puts
 pub mod Rows
 pub mod Back

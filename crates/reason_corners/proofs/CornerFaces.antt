@@ -1,4 +1,5 @@
 -- The corner face as the numbers of the tables show it is that of the map which they hold. Assumes nothing.
+use Rattle.std.specs.Prelude.{Some}
 use mathlib.Core.Path.{◌≡◌, refl, sym, ap, ap₂, ◌∙◌}
 use mathlib.Core.Bool.{Bool, true, false, not, ◌&&◌, beq}
 use mathlib.Core.List.{List, [], ◌∷◌, map, Memᴰ}
@@ -11,7 +12,6 @@ use lib.ListN.{length, get_or}
 use Rattle.lists.specs.Tests.{same}
 use Rattle.lists.specs.Scans.{all_of, is_some, keep}
 use Rattle.lists.specs.Tables.{place}
-use Rattle.lists.specs.declared.Found.TheVariants.{At}
 use Rattle.lists.proofs.Bools.{same_eq, same_false, beq_true, eq1}
 use Rattle.lists.proofs.Keeps.{keep_in, keep_cong}
 use Rattle.plane.specs.Directions.{Way}
@@ -49,7 +49,7 @@ module _ (l : List ℤ) (n : ℕ) (z : ℤ) (a b : ℕ) (v : Way) where
   met_alike = met-same (way_at l) (way_with l n []) v (departures_but l n z a b)
       (λ p m. with_none l n [] p (half_below n p (leaving_below l n z a b p m)))
 
-  pub met_below : (q : ℕ) → first_met (way_at l) v (departures_but l n z a b) ≡ At q → q < n * 2
+  pub met_below : (q : ℕ) → first_met (way_at l) v (departures_but l n z a b) ≡ Some q → q < n * 2
   met_below q e = leaving_below l n z a b q (met_in (way_at l) v (departures_but l n z a b) q e)
 
 -- all departures, where both exceptions are past the positions
@@ -91,7 +91,7 @@ module _ {nodes : List ℤ} {r : ℕ} {l : List ℤ} {n : ℕ} (s : NodeRows nod
     node_is : node m number ≡ node_at nodes i
     unfolding node
     node_is =
-        let at : place (same_z (pos number)) 0 (column node_width nodes r) ≡ At i =
+        let at : place (same_z (pos number)) 0 (column node_width nodes r) ≡ Some i =
         ap (λ (z : ℤ). place (same_z z) 0 (column node_width nodes r)) (sym cells.number)
         ∙ row_place node_width nodes r (node_rows_rising s) i h in
         rw (N, (node_found nodes r s.ranges (pos number) i at).2)

@@ -1,5 +1,7 @@
 -- Where the new edge is linked in: corners are positions, and the end of a loop finds the new edge's start at its node.
 -- Assumes nothing.
+use Rattle.std.specs.Prelude.{Option, Some, None}
+use Rattle.std.specs.Option.{unwrap_or}
 use mathlib.Core.Path.{◌≡◌, refl, sym, ap, ◌∙◌}
 use mathlib.Core.Logic.{inl, inr}
 use mathlib.Core.Bool.{Bool, true, false, cond}
@@ -18,8 +20,8 @@ use Rattle.rotation.proofs.Node.{first_in}
 use Rattle.tables.specs.Tables.{same_z}
 use Rattle.darts.specs.Positions.{way_with}
 use Rattle.darts.proofs.Positions.{even_of, odd_of}
-use Rattle.links.specs.Linking.{positions, leaves_node}
-use Rattle.links.proofs.FirstMet.{first_any, first_none, position_below}
+use Rattle.links.specs.Linking.{positions, leaves_node, first_met}
+use Rattle.links.proofs.FirstMet.{first_none, met_at, met_none, position_below}
 use Rattle.reason_corners.specs.Drawing.{departing, at_end, corner_at, end_corner, first_of}
 use Rattle.reason_corners.proofs.Choosing.{first_more, first_below}
 
@@ -53,6 +55,21 @@ module _ (l : List ℤ) (e : ℕ) (c : List ℤ) where
   corner_below back z n u h k = first_below W (start_way (course back (curve_of c))) n u (departing l e z) h
       (λ p i. let b = departing_below l e z p i in omega arith)
 
+  -- the first one met, or what stands in for none
+  pub corner_or : (back : Bool) (z : ℤ) (u : ℕ)
+      → unwrap_or (first_met W (start_way (course back (curve_of c))) (departing l e z)) u ≡ corner_at l e c back z u
+  corner_or back z u = go (first_met W v ds) refl
+    where
+      v : Way
+      v = start_way (course back (curve_of c))
+
+      ds : List ℕ
+      ds = departing l e z
+
+      go : (r : Option ℕ) → first_met W v ds ≡ r → unwrap_or r u ≡ first_clockwise W v u ds
+      go (Some p) e = sym (met_at W v ds p e u)
+      go None e = sym (ap (first_clockwise W v u) (met_none W v ds e) ∙ first_none W v u)
+
   pub end_below : (from to : ℤ) → end_corner l e c from to < e * 2 + 2
   end_below from to = first_below W (start_way (course true (curve_of c))) (e * 2 + 2) (e * 2 + 1) (at_end l e from to)
       (omega arith) (at_end_below l e from to)
@@ -63,34 +80,22 @@ module _ (l : List ℤ) (e : ℕ) (c : List ℤ) where
     end-apart d = rw d (ap (first_clockwise W (start_way (course true (curve_of c))) (e * 2 + 1))
         (sym (append-nil (departing l e to))))
 
-    module _ (q : ℕ) (is : q ≡ corner_at l e c true to (e * 2)) (loop : same_z from to ≡ true) where
-      -- nothing else is there
-      pub end_alone : q ≡ e * 2 → q ≡ end_corner l e c from to
-      end_alone h = rw loop (go (departing l e to) (departing_below l e to) is)
-        where
-          v : Way
-          v = start_way (course true (curve_of c))
+    module _ (loop : same_z from to ≡ true) where
+      abbrev v : Way
+      v = start_way (course true (curve_of c))
 
-          go : (ds : List ℕ) → ((p : ℕ) → Memᴰ p ds → p < e * 2) → q ≡ first_clockwise W v (e * 2) ds → q
-              ≡ first_clockwise W v (e * 2 + 1) (ds ++ e * 2 ∷ [])
-          go [] below r = h ∙ sym (Memᴰ.eq_of_singleton
-              (first_in W v (e * 2 + 1) (e * 2 ∷ []) {d = e * 2} (Memᴰ.head refl)))
-          go (d ∷ ds) below r =
-              let b : first_clockwise W v (e * 2) (d ∷ ds) < e * 2 =
-              below (first_clockwise W v (e * 2) (d ∷ ds))
-              (first_in W v (e * 2) (d ∷ ds) {d = d} (Memᴰ.head refl)) in
-              absurd (omega arith)
+      -- nothing else is there
+      pub end_alone : first_met W v (departing l e to) ≡ None → e * 2 ≡ end_corner l e c from to
+      end_alone h = rw (loop, met_none W v (departing l e to) h)
+          (sym (Memᴰ.eq_of_singleton (first_in W v (e * 2 + 1) (e * 2 ∷ []) {d = e * 2} (Memᴰ.head refl))))
 
       -- the new edge besides
-      pub end_besides : ((q ≡ e * 2) → ⊥) → first_of W (start_way (course true (curve_of c))) q (e * 2)
+      pub end_besides : (q : ℕ) → first_met W v (departing l e to) ≡ Some q → first_of W v q (e * 2)
           ≡ end_corner l e c from to
-      end_besides h = rw loop (go (departing l e to) is)
+      end_besides q h = rw loop (go (departing l e to) h)
         where
-          v : Way
-          v = start_way (course true (curve_of c))
-
-          go : (ds : List ℕ) → q ≡ first_clockwise W v (e * 2) ds → first_of W v q (e * 2)
+          go : (ds : List ℕ) → first_met W v ds ≡ Some q → first_of W v q (e * 2)
               ≡ first_clockwise W v (e * 2 + 1) (ds ++ e * 2 ∷ [])
-          go [] r = absurd (h (r ∙ first_none W v (e * 2)))
+          go [] r = cc
           go (d ∷ ds) r = sym (first_more W v (e * 2 + 1) (e * 2) d ds
-              ∙ ap (λ (x : ℕ). first_of W v x (e * 2)) (first_any W v d ds (e * 2 + 1) (e * 2) ∙ sym r))
+              ∙ ap (λ (x : ℕ). first_of W v x (e * 2)) (met_at W v (d ∷ ds) q r (e * 2 + 1)))

@@ -1,15 +1,13 @@
 -- The corner face as the numbers of the tables show it: `corner_face` of the map, at the node of row i.
-use Rattle.std.specs.Prelude.{List, ℕ, ◌+◌, ◌*◌, ℤ, pos, get_or}
-use Rattle.lists.specs.declared.Found.{Found}
-use Rattle.lists.specs.declared.Found.TheVariants.{At, Missing}
+use Rattle.std.specs.Prelude.{List, ℕ, ◌+◌, ◌*◌, ℤ, pos, get_or, Option, Some, None}
 use Rattle.plane.specs.Directions.{Way}
 use Rattle.map.specs.Limits.{node_width}
 use Rattle.darts.specs.Positions.{side_cell, way_at}
 use Rattle.links.specs.Linking.{departures_but, first_met}
 
-abbrev pub corner_by : List ℤ → ℕ → List ℤ → Found → ℤ
-corner_by nodes i l (At p) = side_cell l p 5
-corner_by nodes i l Missing = get_or nodes (i * node_width + 3) (pos 0)
+abbrev pub corner_by : List ℤ → ℕ → List ℤ → Option ℕ → ℤ
+corner_by nodes i l (Some p) = side_cell l p 5
+corner_by nodes i l None = get_or nodes (i * node_width + 3) (pos 0)
 
 -- left of the first departure met turning clockwise from v; at a node with none, its containing face
 abbrev pub corner_cell : List ℤ → ℕ → List ℤ → ℕ → Way → ℤ

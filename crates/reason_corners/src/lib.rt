@@ -16,12 +16,12 @@ ghost use Rattle.map.specs.Darts.{next, ring, among};
 ghost use Rattle.map.specs.Edits.{splits_face};
 ghost use Rattle.map_rows.specs.Rows.{NodeRow, EdgeRows, node_at};
 ghost use Rattle.darts.specs.Positions.{way_with};
+ghost use Rattle.links.specs.Linking.{first_met};
 ghost use Rattle.reason_corners.specs.CornerFaces.{corner_cell};
-ghost use Rattle.reason_corners.specs.Drawing.{drawn_dart, edges_numbered, corner_at, end_corner, first_of, Linkable};
+ghost use Rattle.reason_corners.specs.Drawing.{drawn_dart, edges_numbered, departing, end_corner, first_of, Linkable};
 ghost use Rattle.reason_corners.specs.Drawing.{Joined};
 
 use darts::Step;
-use lists::Found;
 
 // The corner face of v: left of the first existing departure met turning clockwise from it; at an isolated node, the
 // containing face.
@@ -30,7 +30,7 @@ pub fn corner_face(nodes: &[i64], i: usize, edges: &[i64], count: usize, v: Step
     ensures { result ≡ corner_cell nodes.now i edges.now count (way_to v.from v.to) }
 {
     let none = count * 2;
-    let found = links::first_clockwise(
+    match links::first_clockwise(
         edges,
         count,
         count,
@@ -39,10 +39,9 @@ pub fn corner_face(nodes: &[i64], i: usize, edges: &[i64], count: usize, v: Step
         v,
         none,
         none,
-    );
-    match found {
-        Found::At(p) => darts::dart_cell(edges, p, map::LEFT),
-        Found::Missing => nodes[i * map::NODE_WIDTH + map::NODE_FACE],
+    ) {
+        Some(p) => darts::dart_cell(edges, p, map::LEFT),
+        None => nodes[i * map::NODE_WIDTH + map::NODE_FACE],
     }
 }
 
@@ -75,12 +74,13 @@ struct Corners {
     end: u16,
 }
 
-// The first departure from the node met clockwise from the curve, or from its reverse; `none` where there is none.
-fn corner(edges: &[i64], e: usize, c: &[i64], back: bool, node: i64, none: usize) -> usize
+// The first departure from the node met clockwise from the curve, or from its reverse.
+fn corner(edges: &[i64], e: usize, c: &[i64], back: bool, node: i64) -> Option<usize>
     requires { EdgeRows edges.now e × (e ≤ max_edges) × Run c.now }
-    ensures { result ≡ corner_at edges.now e c.now back node none }
+    ensures { result ≡ first_met (way_with edges.now e c.now)
+        (start_way (course back (curve_of c.now))) (departing edges.now e node) }
 {
-    let found = links::first_clockwise(
+    links::first_clockwise(
         edges,
         e,
         e,
@@ -89,11 +89,7 @@ fn corner(edges: &[i64], e: usize, c: &[i64], back: bool, node: i64, none: usize
         darts::first_step(c, back),
         e * 2,
         e * 2,
-    );
-    let Found::At(p) = found else {
-        return none;
-    };
-    p
+    )
 }
 
 // The first one met clockwise from the new edge's end where q is the first of the others and the new edge itself starts
@@ -121,14 +117,14 @@ fn end_corner(edges: &[i64], e: usize, c: &[i64], from: i64, to: i64) -> usize
     requires { EdgeRows edges.now e × (e ≤ max_edges) × Run c.now }
     ensures { result ≡ end_corner edges.now e c.now from to }
 {
+    let found = corner(edges, e, c, true, to);
     if from != to {
-        return corner(edges, e, c, true, to, e * 2 + 1);
+        return found.unwrap_or(e * 2 + 1);
     }
-    let q = corner(edges, e, c, true, to, e * 2);
-    if q == e * 2 {
-        return q;
+    match found {
+        Some(q) => end_of_loop(edges, e, q, c),
+        None => e * 2,
     }
-    end_of_loop(edges, e, q, c)
 }
 
 // The position q, and `new` for `old`.
@@ -186,7 +182,7 @@ pub fn splits_face(nodes: &[i64], edges: &[i64], e: usize, u: usize, v: usize, c
 {
     let from = nodes[u * map::NODE_WIDTH];
     let to = nodes[v * map::NODE_WIDTH];
-    let start = corner(edges, e, c, false, from, e * 2) as u16;
+    let start = corner(edges, e, c, false, from).unwrap_or(e * 2) as u16;
     let end = end_corner(edges, e, c, from, to) as u16;
     rings_differ(edges, e, Corners { start, end })
 }

@@ -15,8 +15,7 @@ use Rattle.map.proofs.PointLimits.{most-fits}
 use Rattle.map.proofs.RoundTrip.{run_stored, stored_wider}
 use Rattle.map.proofs.Surplus.{Left, sent_left}
 use Rattle.map_rows.proofs.Lines.{line_read}
-use Rattle.reason_curves.specs.declared.CurveRead.{CurveRead}
-use Rattle.reason_curves.specs.Sent.{read_under, curve_read, PointsLeft}
+use Rattle.reason_curves.specs.Sent.{PointsLeft}
 
 pub points-left : {l : List ℤ} → PointsLeft l → Left max_points (curve_of l)
 points-left {l} p = record { stored = run_stored l p.run.is; differ = p.differ; bent = p.bent }
@@ -29,31 +28,21 @@ pub record ReadLine (k : ℕ) (x : Line) (sent : List ℤ) : Type 0 where
   pub curve : curve_of (take (x.count * 2 - 0) x.cells) ≡ curve_in sent
   pub passed : first_reason (sent_reasons k sent) ≡ 0
 
-module _ (k : PointLimit) (sent : List ℤ) (r : CurveRead) (e : r ≡ curve_read (most_points k) sent) where
-  -- the reason is the first against the points sent
-  pub read-refused : first_reason (sent_reasons (most_points k) sent) ≡ r.reason
-  read-refused = sym (ap (λ (q : CurveRead). q.reason) e ∙ under (first_reason (sent_reasons (most_points k) sent)))
-    where
-      under : (n : ℕ) → (read_under n sent).reason ≡ n
-      under zero = refl
-      under (suc n) = refl
-
-  pub read-line : r.reason ≡ 0 → ReadLine (most_points k) r.line sent
-  read-line none =
-      let passed = read-refused ∙ none in
-      let l : r.line ≡ line_of (points (curve_in sent)) =
-      ap (λ (q : CurveRead). q.line) e ∙ ap (λ n. (read_under n sent).line) passed in
-      let left = (sent_left (most_points k) sent [] passed).0 in
-      let read = line_read (stored_wider (most-fits k) left.stored) r.line l in
-      record {
-        few = read.few;
-        long = read.long;
-        left =
-            record {
-              run = read.run;
-              differ = ap neighbours_differ read.curve ∙ left.differ;
-              bent = ap straight_inside read.curve ∙ left.bent;
-            };
-        curve = read.curve;
-        passed = passed;
-      }
+-- what the points sent leave, where nothing is against them
+pub read-line : (k : PointLimit) (sent : List ℤ) (l : Line) → first_reason (sent_reasons (most_points k) sent) ≡ 0 → l
+    ≡ line_of (points (curve_in sent)) → ReadLine (most_points k) l sent
+read-line k sent l passed e =
+    let left = (sent_left (most_points k) sent [] passed).0 in
+    let read = line_read (stored_wider (most-fits k) left.stored) l e in
+    record {
+      few = read.few;
+      long = read.long;
+      left =
+          record {
+            run = read.run;
+            differ = ap neighbours_differ read.curve ∙ left.differ;
+            bent = ap straight_inside read.curve ∙ left.bent;
+          };
+      curve = read.curve;
+      passed = passed;
+    }

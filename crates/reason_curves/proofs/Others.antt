@@ -1,5 +1,6 @@
 -- Scans of all rows but one: of all rows, where that one is past the last, and else of the rows without its number.
 -- Assumes nothing.
+use Rattle.std.specs.Prelude.{Some}
 use mathlib.Core.Path.{◌≡◌, sym, ap, ◌∙◌}
 use mathlib.Core.Bool.{not, ◌&&◌}
 use mathlib.Core.Logic.{inl, inr, ⊎_elim}
@@ -12,7 +13,6 @@ use lib.ListN.{get_or}
 use Rattle.lists.specs.Tests.{same}
 use Rattle.lists.specs.Scans.{any_of, keep}
 use Rattle.lists.specs.Tables.{table, place}
-use Rattle.lists.specs.declared.Found.TheVariants.{At}
 use Rattle.lists.proofs.Bools.{equal?, same_eq, same_false}
 use Rattle.lists.proofs.Keeps.{keep-map, keep_all, any_kept}
 use Rattle.plane.specs.declared.Point.{Point}
@@ -68,7 +68,7 @@ module _ {A : Type 0} (f : ℕ → A) (n : ℕ) where
 one_row : (w : ℕ) (l : List ℤ) (n : ℕ) → Rising w l n → (i j : ℕ) → i < n → j < n → get_or l (i * w) (pos 0)
     ≡ get_or l (j * w) (pos 0) → i ≡ j
 one_row w l n r i j s t e =
-    let h : At i ≡ At j = sym (row_place w l n r i s) ∙ ap (λ (z : ℤ). place (same_z z) 0 (column w l n)) e
+    let h : Some i ≡ Some j = sym (row_place w l n r i s) ∙ ap (λ (z : ℤ). place (same_z z) 0 (column w l n)) e
     ∙ row_place w l n r j t in
     cc
 

@@ -1,30 +1,15 @@
--- A curve read from a ticket; the reasons against it, by the points of its nodes; and the edges but one.
-use Rattle.std.specs.Prelude.{◌≡◌, true, false, not, ◌&&◌, List, [], ◌∷◌, map, ℕ, zero, suc, ℤ}
+-- What is left of the points sent; the reasons against a curve, by the points of its nodes; and the edges but one.
+use Rattle.std.specs.Prelude.{◌≡◌, true, false, not, ◌&&◌, List, [], ◌∷◌, map, ℕ, ℤ}
 use Rattle.lists.specs.Tests.{same}
 use Rattle.lists.specs.Scans.{keep}
 use Rattle.lists.specs.Tables.{table}
 use Rattle.plane.specs.declared.Point.{Point}
 use Rattle.plane.specs.Points.{same_point}
-use Rattle.curves.specs.Curves.{Curve, Run, points, last_point, curve_of}
+use Rattle.curves.specs.Curves.{Curve, Run, last_point, curve_of}
 use Rattle.curves.specs.Tests.{neighbours_differ, straight_inside, is_simple}
-use Rattle.curve_edits.specs.Lines.{line_of}
 use Rattle.map.specs.Rows.{Edge}
-use Rattle.map.specs.Reasons.{Reasons, first_reason, sent_reasons, curve_in}
+use Rattle.map.specs.Reasons.{Reasons}
 use Rattle.map_rows.specs.Rows.{edge_at}
-use Rattle.reason_curves.specs.declared.CurveRead.{CurveRead}
-
--- no curve, for a reason
-abbrev pub without_curve : ℕ → CurveRead
-without_curve reason = record { reason = reason; line = line_of [] }
-
--- under a first reason against the points sent: where that is 0, what is left of them
-abbrev pub read_under : ℕ → List ℤ → CurveRead
-read_under zero sent = record { reason = 0; line = line_of (points (curve_in sent)) }
-read_under (suc k) sent = without_curve (suc k)
-
--- a curve of at most so many points, read
-abbrev pub curve_read : ℕ → List ℤ → CurveRead
-curve_read most sent = read_under (first_reason (sent_reasons most sent)) sent
 
 -- what is left of points sent that 5 and 6 let pass
 pub record PointsLeft (l : List ℤ) : Type 0 where

@@ -1,23 +1,24 @@
 // The tests behind the reasons that look at points and curves alone: 5 to 8, 10, 14, 23, 15 and 24.
 #![tactic(auto)]
 
-ghost use Rattle.std.specs.Prelude.{◌≡◌, true, not, ◌&&◌, ◌≤◌};
+ghost use Rattle.std.specs.Prelude.{◌≡◌, true, not, ◌&&◌, ◌≤◌, IfOk};
 ghost use Rattle.lists.specs.Tests.{same};
 ghost use Rattle.lists.specs.Scans.{any_of};
 ghost use Rattle.lists.specs.Tables.{table};
 ghost use Rattle.plane.specs.Points.{InRange, same_point};
-ghost use Rattle.curves.specs.Curves.{Run, coordinate, curve_of, last_point, point, max_points};
+ghost use Rattle.curves.specs.Curves.{Run, coordinate, curve_of, last_point, point, points, max_points};
+ghost use Rattle.curve_edits.specs.Lines.{line_of};
 ghost use Rattle.curves.specs.Tests.{on_curve, graver, meeting};
 ghost use Rattle.bounding_boxes.specs.Extents.{extent_of};
 ghost use Rattle.map.specs.Reasons.{first_reason, edge_through, is_end, node_inside, edge_meeting, contact_reason};
-ghost use Rattle.map.specs.Reasons.{meeting_reasons};
+ghost use Rattle.map.specs.Reasons.{meeting_reasons, sent_reasons, curve_in};
+ghost use Rattle.map.specs.Refusals.{refusal_of};
 ghost use Rattle.map_rows.specs.Rows.{NodeRow, NodeRows, EdgeRow, EdgeRows, node_at, edge_at, node_map, edge_map};
-ghost use Rattle.reason_curves.specs.Sent.{without_curve, curve_read, curve_reasons_at, edges_but};
+ghost use Rattle.reason_curves.specs.Sent.{curve_reasons_at, edges_but};
 
 use bounding_boxes::Extent;
 use curve_edits::Line;
-use lists::Found;
-use map::Map;
+use map::{Map, Refusal};
 use plane::{Contact, Point};
 
 // ---- 5: coordinate out of range
@@ -26,7 +27,7 @@ use plane::{Contact, Point};
 pub fn in_range(x: i64, y: i64) -> bool
     ensures { result ≡ (coordinate x && coordinate y) }
 {
-    (0 <= x) & (x <= Map::COORDINATE) & (0 <= y) & (y <= Map::COORDINATE)
+    (0..=Map::COORDINATE).contains(&x) && (0..=Map::COORDINATE).contains(&y)
 }
 
 // A point of coordinates in range.
@@ -58,39 +59,20 @@ fn last_point(c: &[i64]) -> Point
 
 // ---- 5 and 6: the points sent
 
-// The curve of a ticket, without surplus points, or the first reason, 5 or 6, against the points sent, and no point.
-#[derive(Clone, Copy)]
-pub struct CurveRead {
-    pub reason: u64,
-    pub line: Line,
-}
-
-// No curve, for a reason.
-fn without_curve(reason: u64) -> CurveRead
-    ensures { result ≡ without_curve reason }
-{
-    CurveRead {
-        reason,
-        line: Line::empty(),
-    }
-}
-
-// Reads the curve of a ticket: 5, for at most so many points, and 6 go by the points sent, all that comes after by the
-// points left.
-pub fn read_curve(sent: &[i64], most: usize) -> CurveRead
+// Reads the curve of a ticket, without surplus points: 5, for at most so many points, and 6 go by the points sent, all
+// that comes after by the points left.
+pub fn read_curve(sent: &[i64], most: usize) -> Result<Line, Refusal>
     requires { most ≤ max_points }
-    ensures { result ≡ curve_read most sent.now }
+    ensures refused { refusal_of result ≡ first_reason (sent_reasons most sent.now) }
+    ensures read { IfOk result (λ l. l ≡ line_of (points (curve_in sent.now))) }
 {
     if !curves::is_run(sent, most) {
-        return without_curve(5);
+        return Err(Refusal::OutOfRange);
     }
     if !curves::neighbours_differ(sent) {
-        return without_curve(6);
+        return Err(Refusal::EqualNeighbours);
     }
-    CurveRead {
-        reason: 0,
-        line: curve_edits::without_surplus(sent),
-    }
+    Ok(curve_edits::without_surplus(sent))
 }
 
 // ---- 7 and 8: a curve from node row u to node row v
@@ -101,21 +83,23 @@ fn ends_on(nodes: &[i64], u: usize, v: usize, c: &[i64]) -> bool
     ensures { result ≡ (same_point (curve_of c.now).first (node_at nodes.now u).at
         && same_point (last_point (curve_of c.now)) (node_at nodes.now v).at) }
 {
-    let starts = plane::same_point(first_point(c), map_rows::node_point(nodes, u));
-    let ends = plane::same_point(last_point(c), map_rows::node_point(nodes, v));
-    starts & ends
+    first_point(c) == map_rows::node_point(nodes, u)
+        && last_point(c) == map_rows::node_point(nodes, v)
 }
 
-// The first reason, 7 or 8, against a curve from node row u to node row v; 0 for none.
-pub fn curve_reason(nodes: &[i64], u: usize, v: usize, c: &[i64]) -> u64
+// 7 and 8, against a curve from node row u to node row v.
+pub fn check_curve(nodes: &[i64], u: usize, v: usize, c: &[i64]) -> Result<(), Refusal>
     requires { NodeRow nodes.now u × NodeRow nodes.now v × Run c.now }
-    ensures { result ≡ first_reason (curve_reasons_at (curve_of c.now)
+    ensures { refusal_of result ≡ first_reason (curve_reasons_at (curve_of c.now)
         (node_at nodes.now u).at (node_at nodes.now v).at) }
 {
     if !curves::is_simple(c) {
-        return 7;
+        return Err(Refusal::NotSimple);
     }
-    if ends_on(nodes, u, v, c) { 0 } else { 8 }
+    if !ends_on(nodes, u, v, c) {
+        return Err(Refusal::EndsDiffer);
+    }
+    Ok(())
 }
 
 // ---- 10: another node at the point, or an edge through it
@@ -126,7 +110,7 @@ pub fn node_at(nodes: &[i64], n: usize, own: usize, p: Point) -> bool
     ensures { result ≡ any_of (λ i. not (same i own) && same_point (node_at nodes.now i).at p) (table (λ i. i) 0 n) }
 {
     for i in 0..n {
-        if (i != own) & plane::same_point(map_rows::node_point(nodes, i), p) {
+        if i != own && map_rows::node_point(nodes, i) == p {
             return true;
         }
     }
@@ -138,11 +122,7 @@ pub fn on_curve(c: &[i64], p: Point) -> bool
     requires { Run c.now × InRange p }
     ensures { result ≡ on_curve (curve_of c.now) p }
 {
-    let found = curves::first_place(c, p);
-    match found {
-        Found::At(i) => true,
-        Found::Missing => false,
-    }
+    curves::first_place(c, p).is_some()
 }
 
 // Whether an edge passes through the point.
@@ -165,7 +145,7 @@ fn is_end(c: &[i64], p: Point) -> bool
     requires { Run c.now × InRange p }
     ensures { result ≡ is_end (curve_of c.now) p }
 {
-    plane::same_point(p, first_point(c)) | plane::same_point(p, last_point(c))
+    p == first_point(c) || p == last_point(c)
 }
 
 // Whether a node lies on the curve and is no end of it.
@@ -175,7 +155,7 @@ fn node_inside(nodes: &[i64], n: usize, c: &[i64]) -> bool
 {
     for i in 0..n {
         let p = map_rows::node_point(nodes, i);
-        if on_curve(c, p) & !is_end(c, p) {
+        if on_curve(c, p) && !is_end(c, p) {
             return true;
         }
     }
@@ -189,10 +169,10 @@ fn row_meeting(found: Contact, edges: &[i64], i: usize, e: Extent, c: &[i64]) ->
     ensures { result ≡ graver found (meeting (curve_of c.now) (edge_at edges.now i).curve) }
 {
     let d = map_rows::curve_of(edges, i);
-    if bounding_boxes::lie_apart(e, bounding_boxes::extent_of(d)) {
+    if e.lies_apart(bounding_boxes::extent_of(d)) {
         return found;
     }
-    curves::graver(found, curves::curves_meeting(c, d))
+    found.max(curves::curves_meeting(c, d))
 }
 
 // The gravest that the curve does with an edge but that of row `own`.
@@ -210,33 +190,33 @@ fn edge_meeting(edges: &[i64], count: usize, own: usize, c: &[i64]) -> Contact
     found
 }
 
-// The number of what was found; 0 for none.
-fn contact_reason(k: Contact) -> u64
-    ensures { result ≡ contact_reason k }
+// What was found as a refusal.
+fn check_contact(k: Contact) -> Result<(), Refusal>
+    ensures { refusal_of result ≡ contact_reason k }
 {
     match k {
-        Contact::None => 0,
-        Contact::Touch => 24,
-        Contact::Crossing => 15,
-        Contact::Stretch => 23,
+        Contact::None => Ok(()),
+        Contact::Touch => Err(Refusal::Touches),
+        Contact::Crossing => Err(Refusal::Crosses),
+        Contact::Stretch => Err(Refusal::Overlaps),
     }
 }
 
-// The first reason, of 14, 23, 15 and 24, against a curve of edge row `own`; 0 for none.
-pub fn meeting_reason(
+// 14, and the one of 23, 15 and 24 that is found, against a curve of edge row `own`.
+pub fn check_meeting(
     nodes: &[i64],
     n: usize,
     edges: &[i64],
     count: usize,
     own: usize,
     c: &[i64],
-) -> u64
+) -> Result<(), Refusal>
     requires { NodeRows nodes.now n × EdgeRows edges.now count × Run c.now }
-    ensures { result ≡ first_reason (meeting_reasons (node_map nodes.now n)
+    ensures { refusal_of result ≡ first_reason (meeting_reasons (node_map nodes.now n)
         (edges_but edges.now count own) (curve_of c.now)) }
 {
     if node_inside(nodes, n, c) {
-        return 14;
+        return Err(Refusal::NodeInside);
     }
-    contact_reason(edge_meeting(edges, count, own, c))
+    check_contact(edge_meeting(edges, count, own, c))
 }

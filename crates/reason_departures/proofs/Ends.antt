@@ -71,6 +71,14 @@ module _ {l : List ℤ} {n : ℕ} (t : EdgeRows l n) where
         ∙ sym (ends_count t e.end) in
         ap₂ ◌&&◌ (ap₂ (λ (c : Bool) (k : ℕ). c && same k 1) first second) (ap (λ (k : ℕ). same k 1) third)
 
+-- ---- one of two tests, the second asked where the first does not hold
+
+pub first_holds : {v r x : Bool} (y : Bool) → v ≡ r → r ≡ true → r ≡ x → v ≡ x || y
+first_holds y is e f = is ∙ e ∙ ap (λ (b : Bool). b || y) (sym e ∙ f)
+
+pub second_asked : {v r s x y : Bool} → v ≡ s → r ≡ false → r ≡ x → s ≡ y → v ≡ x || y
+second_asked {y} is e f g = is ∙ g ∙ ap (λ (b : Bool). b || y) (sym e ∙ f)
+
 -- ---- 16 and 17
 
 -- two nodes, those of them that s takes, and of these one that t takes
@@ -117,3 +125,30 @@ reason_is m a b =
     reason_cases (same a b || same (length (shared_nodes m a b)) 0) (is_some (joint m a b))
     (same a b || not (s e.start || s e.end)) (joins_at m b e.end || joins_at m b e.start)
     (ap (λ (x : Bool). same a b || x) (none_shared s t e.end e.start)) (one_found s t e.end e.start)
+
+-- ---- by row
+
+module _ {l : List ℤ} {n : ℕ} (t : EdgeRows l n) (i j : ℕ) (hi : i < n) (hj : j < n) where
+  abbrev m : Map
+  m = edge_map l n
+
+  abbrev a : ℕ
+  a = (edge_at l i).number
+
+  abbrev b : ℕ
+  b = (edge_at l j).number
+
+  -- a node of row i is one of row j, and joins the two
+  abbrev pub shared_at : ℕ → Bool
+  shared_at k = same k (edge m b).start || same k (edge m b).end
+
+  abbrev pub shared : Bool
+  shared = shared_at (edge m a).start || shared_at (edge m a).end
+
+  abbrev pub joined : Bool
+  joined = joins_at m b (edge m a).end || joins_at m b (edge m a).start
+
+  pub joint_told : {x y z : Bool} → same i j ≡ x → shared ≡ y → joined ≡ z
+      → cond (x || not y) 16 (cond z 0 17) ≡ first_reason (joint_reasons m a b)
+  joint_told ex ey ez = sym (reason_is m a b
+      ∙ (λ k. cond ((sym (same_row t i j hi hj) ∙ ex) k || not (ey k)) 16 (cond (ez k) 0 17)))

@@ -8,9 +8,12 @@ ghost use Rattle.lists.specs.Scans.{any_of};
 ghost use Rattle.curves.specs.Curves.{Run, curve_of};
 ghost use Rattle.map.specs.Limits.{edge_width, max_edges};
 ghost use Rattle.map.specs.Reasons.{edge_isolated, order_changes, first_reason};
+ghost use Rattle.map.specs.Refusals.{refusal_of};
 ghost use Rattle.map_rows.specs.Rows.{edge_at, edge_map, EdgeRows};
 ghost use Rattle.links.specs.Linking.{positions, leaves_node};
 ghost use Rattle.reason_departures.specs.Turning.{direction_taken_at, turns_at, ends_at, joins_at, joint_reasons};
+
+use map::Refusal;
 
 // ---- 9: isolated edges
 
@@ -21,7 +24,7 @@ pub fn edge_isolated(edges: &[i64], count: usize, i: usize) -> bool
 {
     let u = edges[i * map::EDGE_WIDTH + map::START];
     let v = edges[i * map::EDGE_WIDTH + map::END];
-    (u != v) & (links::edge_ends(edges, count, u) == 1) & (links::edge_ends(edges, count, v) == 1)
+    u != v && links::edge_ends(edges, count, u) == 1 && links::edge_ends(edges, count, v) == 1
 }
 
 // ---- 11: a departure has the direction of another edge's end
@@ -32,10 +35,8 @@ pub fn direction_taken(edges: &[i64], count: usize, own: usize, u: i64, v: i64, 
     requires { EdgeRows edges.now count × Run c.now }
     ensures { result ≡ direction_taken_at edges.now count own u v (curve_of c.now) }
 {
-    if links::way_taken(edges, count, u, own, darts::first_step(c, false)) {
-        return true;
-    }
-    links::way_taken(edges, count, v, own, darts::first_step(c, true))
+    links::way_taken(edges, count, u, own, darts::first_step(c, false))
+        || links::way_taken(edges, count, v, own, darts::first_step(c, true))
 }
 
 // ---- 19: cyclic order at an end would change
@@ -49,10 +50,10 @@ fn turn_changes(edges: &[i64], count: usize, own: usize, c: &[i64], node: i64) -
 {
     let mut list = [0u16; map::DARTS];
     let n = links::departures_at(edges, count, node, &mut list);
-    for k in 0..n {
-        let p = list[k] as usize;
-        let before = links::clockwise(edges, count, c, &list[..n], p);
-        let after = links::clockwise(edges, own, c, &list[..n], p);
+    let listed = &list[..n];
+    for &p in listed {
+        let before = links::clockwise(edges, count, c, listed, p as usize);
+        let after = links::clockwise(edges, own, c, listed, p as usize);
         if before != after {
             return true;
         }
@@ -66,22 +67,9 @@ pub fn order_changes(edges: &[i64], count: usize, own: usize, c: &[i64]) -> bool
     ensures { result ≡ order_changes (edge_map edges.now count)
         (edge_at edges.now own).number (curve_of c.now) }
 {
-    if turn_changes(
-        edges,
-        count,
-        own,
-        c,
-        edges[own * map::EDGE_WIDTH + map::START],
-    ) {
-        return true;
-    }
-    turn_changes(
-        edges,
-        count,
-        own,
-        c,
-        edges[own * map::EDGE_WIDTH + map::END],
-    )
+    let u = edges[own * map::EDGE_WIDTH + map::START];
+    let v = edges[own * map::EDGE_WIDTH + map::END];
+    turn_changes(edges, count, own, c, u) || turn_changes(edges, count, own, c, v)
 }
 
 // ---- 16 and 17: the node where two edges are joined
@@ -91,27 +79,24 @@ fn ends_at(edges: &[i64], j: usize, node: i64) -> bool
     requires { j * edge_width + edge_width ≤ length edges.now }
     ensures { result ≡ ends_at edges.now j node }
 {
-    (edges[j * map::EDGE_WIDTH + map::START] == node)
-        | (edges[j * map::EDGE_WIDTH + map::END] == node)
+    edges[j * map::EDGE_WIDTH + map::START] == node || edges[j * map::EDGE_WIDTH + map::END] == node
 }
 
-// The first reason against a joint: 16 where the edges are one or share no node, 17 where no shared node has exactly
-// two edge ends, else 0.
-pub fn joint_reason(edges: &[i64], count: usize, i: usize, j: usize) -> u64
+// The first reason against a joint: the edges are one or share no node, or no shared node has exactly two edge ends.
+pub fn check_joint(edges: &[i64], count: usize, i: usize, j: usize) -> Result<(), Refusal>
     requires { EdgeRows edges.now count × (i < count) × (j < count) }
-    ensures { result ≡ first_reason (joint_reasons (edge_map edges.now count)
+    ensures { refusal_of result ≡ first_reason (joint_reasons (edge_map edges.now count)
         (edge_at edges.now i).number (edge_at edges.now j).number) }
 {
     let u = edges[i * map::EDGE_WIDTH + map::START];
     let v = edges[i * map::EDGE_WIDTH + map::END];
-    if (i == j) | !(ends_at(edges, j, u) | ends_at(edges, j, v)) {
-        return 16;
+    if i == j || !(ends_at(edges, j, u) || ends_at(edges, j, v)) {
+        return Err(Refusal::NoSharedNode);
     }
-    if joins_at(edges, count, j, v) | joins_at(edges, count, j, u) {
-        0
-    } else {
-        17
+    if !(joins_at(edges, count, j, v) || joins_at(edges, count, j, u)) {
+        return Err(Refusal::OtherEdgeEnds);
     }
+    Ok(())
 }
 
 // Whether edge row j ends at the node, which has exactly two edge ends.
@@ -119,8 +104,5 @@ pub fn joins_at(edges: &[i64], count: usize, j: usize, node: i64) -> bool
     requires { EdgeRows edges.now count × (j < count) × (non_neg node ≡ true) }
     ensures { result ≡ joins_at (edge_map edges.now count) (edge_at edges.now j).number (nat_abs node) }
 {
-    if !ends_at(edges, j, node) {
-        return false;
-    }
-    links::edge_ends(edges, count, node) == 2
+    ends_at(edges, j, node) && links::edge_ends(edges, count, node) == 2
 }

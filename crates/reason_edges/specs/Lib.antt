@@ -1,3 +1,3 @@
--- `Parts`: reasons in parts. `Judging`: what is answered of an edge.
+-- `Parts`: reasons in parts. `Judging`: what is answered of a new edge.
 pub mod Parts
 pub mod Judging

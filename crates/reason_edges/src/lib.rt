@@ -1,35 +1,37 @@
 // The reasons against kinds 11 and 12 from 7 on and against 13 and 14, in order, and what is known where none holds.
 #![tactic(auto)]
 
-ghost use Rattle.std.specs.Prelude.{◌≡◌, true, ◌+◌, ◌<◌, nat_abs};
+ghost use Rattle.std.specs.Prelude.{◌≡◌, true, ◌+◌, ◌<◌, nat_abs, Some, IfOk};
 ghost use Rattle.std.specs.Int.Signed.{non_neg};
 ghost use Rattle.lists.specs.Tests.{bit};
+ghost use Rattle.lists.specs.Tables.{place};
+ghost use Rattle.tables.specs.Tables.{same_z, column};
 ghost use Rattle.curves.specs.Curves.{Run, curve_of};
-ghost use Rattle.map.specs.Rows.{map_of, counts};
-ghost use Rattle.map.specs.Reasons.{first_reason};
+ghost use Rattle.map.specs.Limits.{edge_width};
+ghost use Rattle.map.specs.Rows.{map_of, sizes_of, counts};
+ghost use Rattle.map.specs.Edits.{makes_face};
+ghost use Rattle.map.specs.Reasons.{first_reason, add_edge_reasons, reasons};
+ghost use Rattle.map.specs.Refusals.{refusal_of};
 ghost use Rattle.map.specs.Loans.{lent_now};
 ghost use Rattle.map_rows.specs.Rows.{EdgeRow, node_at, edge_at};
 ghost use Rattle.head.specs.Heads.{Counted, sizes_in, room_at};
 ghost use Rattle.outcomes.specs.Outcomes.{Formed};
+ghost use Rattle.outcomes.specs.Variants.{remove_ticket};
 ghost use Rattle.reason_edges.specs.Parts.{drawing_reasons, makes_second, makes_of, face_reasons};
-ghost use Rattle.reason_edges.specs.Judging.{turned_down, judged_add, removal_refused, judged_removal};
+ghost use Rattle.reason_edges.specs.Judging.{judged_add};
 
-use lists::Found;
-use map::{Counts, Head, Variant};
+use map::{Counts, Head, Refusal, Variant};
 
-// The first reason from 7 on against a new edge; where it is 0, its corner face, and whether that is split, and else
-// zeros.
+// Of a new edge that nothing is against: its corner face, and whether that is split.
 #[derive(Clone, Copy)]
 pub struct Judged {
-    pub reason: u64,
     pub face: i64,
     pub splits: bool,
 }
 
-// The first reason against removing an edge; where it is 0, its row, and whether a new face is made, and else zeros.
+// Of an edge whose removal nothing is against: its row, and whether a new face is made.
 #[derive(Clone, Copy)]
 pub struct Removal {
-    pub reason: u64,
     pub row: usize,
     pub makes: bool,
 }
@@ -41,35 +43,13 @@ fn makes_second(splits: bool, how: Variant, face: i64) -> bool
     requires { non_neg face ≡ true }
     ensures { result ≡ makes_second splits how (nat_abs face) }
 {
-    splits & outcomes::is_new(how) & (face != 0)
-}
-
-// Nothing is known but the reason.
-fn turned_down(reason: u64) -> Judged
-    ensures { result ≡ turned_down reason }
-{
-    Judged {
-        reason,
-        face: 0,
-        splits: false,
-    }
-}
-
-// Nothing is known but the reason.
-fn removal_refused(reason: u64) -> Removal
-    ensures { result ≡ removal_refused reason }
-{
-    Removal {
-        reason,
-        row: 0,
-        makes: false,
-    }
+    splits & (how == Variant::New) & (face != 0)
 }
 
 // ---- kinds 11 and 12
 
-// The first reason from 7 on and before 20, of an edge along the curve from node row u to node row v; 0 for none.
-fn drawing_reason(
+// The reasons from 7 on and before 20, of an edge along the curve from node row u to node row v.
+fn check_drawing(
     nodes: &[i64],
     edges: &[i64],
     faces: &[i64],
@@ -77,20 +57,17 @@ fn drawing_reason(
     u: usize,
     v: usize,
     c: &[i64],
-) -> u64
+) -> Result<(), Refusal>
     requires { Formed nodes.now edges.now faces.now h × (u < nat_abs h.nodes) × (v < nat_abs h.nodes)
         × Run c.now }
-    ensures { result ≡ first_reason (drawing_reasons
+    ensures { refusal_of result ≡ first_reason (drawing_reasons
         (map_of (lent_now nodes.now edges.now faces.now h))
         (node_at nodes.now u).number (node_at nodes.now v).number
         (curve_of c.now)) }
 {
     let n = head::to_usize(h.nodes);
     let e = head::to_usize(h.edges);
-    let reason = reason_curves::curve_reason(nodes, u, v, c);
-    if reason != 0 {
-        return reason;
-    }
+    reason_curves::check_curve(nodes, u, v, c)?;
     if reason_departures::direction_taken(
         edges,
         e,
@@ -99,26 +76,25 @@ fn drawing_reason(
         nodes[v * map::NODE_WIDTH],
         c,
     ) {
-        return 11;
+        return Err(Refusal::DirectionTaken);
     }
     if reason_corners::corners_differ(nodes, u, v, edges, e, c) {
-        return 12;
+        return Err(Refusal::FacesDiffer);
     }
-    reason_curves::meeting_reason(nodes, n, edges, e, e, c)
+    reason_curves::check_meeting(nodes, n, edges, e, e, c)
 }
 
-// 20 or 21 against an edge more, and where it splits a face, a face more, and a second new one where the old face goes;
-// 0 for none.
-fn room_reason(
+// 20 and 21, of an edge more, and where it splits a face, a face more, and a second new one where the old face goes.
+fn check_room(
     nodes: &[i64],
     edges: &[i64],
     faces: &[i64],
     h: Head,
     splits: bool,
     second: bool,
-) -> u64
+) -> Result<(), Refusal>
     requires { Counted h }
-    ensures { result ≡ first_reason (room_at (sizes_in nodes.now edges.now faces.now) h
+    ensures { refusal_of result ≡ first_reason (room_at (sizes_in nodes.now edges.now faces.now) h
         (counts 0 1 (bit splits)) (counts 0 1 (bit splits + bit second))) }
 {
     let rows = Counts {
@@ -131,11 +107,11 @@ fn room_reason(
         edges: 1,
         faces: splits as usize + second as usize,
     };
-    head::room_reason(head::sizes_of(nodes, edges, faces), h, rows, given)
+    head::check_room(head::sizes_of(nodes, edges, faces), h, rows, given)
 }
 
-// Judges kinds 11 and 12 along the curve from node row u to node row v: the first reason from 7 on, and what the edit
-// needs to know where there is none.
+// Judges kinds 11 and 12 along the curve from node row u to node row v: the reasons from 7 on, and what the edit needs
+// to know where there is none.
 pub fn judge_add(
     nodes: &[i64],
     edges: &[i64],
@@ -145,29 +121,26 @@ pub fn judge_add(
     u: usize,
     v: usize,
     c: &[i64],
-) -> Judged
+) -> Result<Judged, Refusal>
     requires { Formed nodes.now edges.now faces.now h × (u < nat_abs h.nodes) × (v < nat_abs h.nodes)
         × Run c.now }
-    ensures { result ≡ judged_add how nodes.now edges.now faces.now h u v
-        c.now }
+    ensures refused { refusal_of result ≡ first_reason (add_edge_reasons how
+        (sizes_of (lent_now nodes.now edges.now faces.now h))
+        (map_of (lent_now nodes.now edges.now faces.now h))
+        (node_at nodes.now u).number (node_at nodes.now v).number
+        (curve_of c.now)) }
+    ensures judged { IfOk result (λ j. j ≡ judged_add
+        (map_of (lent_now nodes.now edges.now faces.now h))
+        (node_at nodes.now u).number (node_at nodes.now v).number
+        (curve_of c.now)) }
 {
-    let reason = drawing_reason(nodes, edges, faces, h, u, v, c);
-    if reason != 0 {
-        return turned_down(reason);
-    }
+    check_drawing(nodes, edges, faces, h, u, v, c)?;
     let e = head::to_usize(h.edges);
     let face = reason_corners::corner_face(nodes, u, edges, e, darts::first_step(c, false));
     let splits = reason_corners::splits_face(nodes, edges, e, u, v, c);
     let second = makes_second(splits, how, face);
-    let late = room_reason(nodes, edges, faces, h, splits, second);
-    if late != 0 {
-        return turned_down(late);
-    }
-    Judged {
-        reason: 0,
-        face,
-        splits,
-    }
+    check_room(nodes, edges, faces, h, splits, second)?;
+    Ok(Judged { face, splits })
 }
 
 // ---- kinds 13 and 14
@@ -179,23 +152,26 @@ fn makes_face(edges: &[i64], i: usize, how: Variant) -> bool
 {
     let left = edges[i * map::EDGE_WIDTH + map::LEFT];
     let right = edges[i * map::EDGE_WIDTH + map::RIGHT];
-    outcomes::is_new(how) & (left != right) & (left != 0) & (right != 0)
+    (how == Variant::New) & (left != right) & (left != 0) & (right != 0)
 }
 
-// 21 against the number of a new face, where one is made; 0 for none.
-fn face_reason(h: Head, makes: bool) -> u64
+// 21, of the number of a new face, where one is made.
+fn check_face(h: Head, makes: bool) -> Result<(), Refusal>
     requires { Counted h }
-    ensures { result ≡ first_reason (face_reasons h (bit makes)) }
+    ensures { refusal_of result ≡ first_reason (face_reasons h (bit makes)) }
 {
     let given = Counts {
         nodes: 0,
         edges: 0,
         faces: makes as usize,
     };
-    if head::is_spent(h, given) { 21 } else { 0 }
+    if head::is_spent(h, given) {
+        return Err(Refusal::NumbersSpent);
+    }
+    Ok(())
 }
 
-// Judges kinds 13 and 14: the first reason against them, and what the edit needs to know where there is none.
+// Judges kinds 13 and 14: the reasons against them, and what the edit needs to know where there is none.
 pub fn judge_removal(
     nodes: &[i64],
     edges: &[i64],
@@ -203,23 +179,21 @@ pub fn judge_removal(
     h: Head,
     how: Variant,
     edge: i64,
-) -> Removal
+) -> Result<Removal, Refusal>
     requires { Formed nodes.now edges.now faces.now h }
-    ensures { result ≡ judged_removal how nodes.now edges.now faces.now h edge }
+    ensures refused { refusal_of result ≡ first_reason (reasons
+        (sizes_of (lent_now nodes.now edges.now faces.now h))
+        (map_of (lent_now nodes.now edges.now faces.now h))
+        (remove_ticket how edge)) }
+    ensures judged { IfOk result (λ r.
+        (place (same_z edge) 0 (column edge_width edges.now (nat_abs h.edges)) ≡ Some r.row)
+        × (r.makes ≡ makes_face how (nat_abs edge) (map_of (lent_now nodes.now edges.now faces.now h)))) }
 {
     let e = head::to_usize(h.edges);
-    let found = tables::find_row(edges, map::EDGE_WIDTH, e, edge);
-    let Found::At(row) = found else {
-        return removal_refused(4);
+    let Some(row) = tables::find_row(edges, map::EDGE_WIDTH, e, edge) else {
+        return Err(Refusal::NoSuchRow);
     };
     let makes = makes_face(edges, row, how);
-    let reason = face_reason(h, makes);
-    if reason != 0 {
-        return removal_refused(reason);
-    }
-    Removal {
-        reason: 0,
-        row,
-        makes,
-    }
+    check_face(h, makes)?;
+    Ok(Removal { row, makes })
 }

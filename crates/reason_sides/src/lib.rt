@@ -74,10 +74,8 @@ fn node_passed(nodes: &[i64], n: usize, a: &[i64], b: &[i64]) -> bool
         (isolated_points (node_map nodes.now n)) }
 {
     for k in 0..n {
-        if map_rows::is_isolated(nodes, k) {
-            if passes_over(a, b, map_rows::node_point(nodes, k)) {
-                return true;
-            }
+        if map_rows::is_isolated(nodes, k) && passes_over(a, b, map_rows::node_point(nodes, k)) {
+            return true;
         }
     }
     false
@@ -154,13 +152,9 @@ fn ring_passed(
     ensures { result ≡ ring_passed (edge_map edges.now count) (edge_at edges.now i)
         (curve_of c.now) (edge_at edges.now j) }
 {
-    if !passes_start(edges, i, c, j) {
-        return false;
-    }
-    if same_piece(nodes, n, edges, count, labels, i, j) {
-        return false;
-    }
-    rings::is_lowest(edges, count, j * 2) | rings::is_lowest(edges, count, j * 2 + 1)
+    passes_start(edges, i, c, j)
+        && !same_piece(nodes, n, edges, count, labels, i, j)
+        && (rings::is_lowest(edges, count, j * 2) | rings::is_lowest(edges, count, j * 2 + 1))
 }
 
 // Whether it passes over the start of some such edge.
@@ -241,10 +235,7 @@ fn on_one_ring(nodes: &[i64], edges: &[i64], faces: &[i64], h: Head, i: usize) -
         ≡ among (ring (edge_map edges.now (nat_abs h.edges)) (dart_at edges.now (i * 2)))
         (dart_at edges.now (i * 2 + 1)) }
 {
-    if !one_face(edges, i) {
-        return false;
-    }
-    rings::on_ring(edges, head::to_usize(h.edges), i * 2, i * 2 + 1)
+    one_face(edges, i) && rings::on_ring(edges, head::to_usize(h.edges), i * 2, i * 2 + 1)
 }
 
 // Whether the curve c for edge row i changes the ring on a side of it: its area between positive and not positive, or
@@ -263,14 +254,8 @@ pub fn sides_change(
 {
     let n = head::to_usize(h.nodes);
     let e = head::to_usize(h.edges);
-    if on_one_ring(nodes, edges, faces, h, i) {
-        return false;
-    }
-    if areas_change(edges, e, i, c) {
-        return true;
-    }
-    if node_passed(nodes, n, map_rows::curve_of(edges, i), c) {
-        return true;
-    }
-    other_piece_passed(nodes, n, edges, e, i, c)
+    !on_one_ring(nodes, edges, faces, h, i)
+        && (areas_change(edges, e, i, c)
+            || node_passed(nodes, n, map_rows::curve_of(edges, i), c)
+            || other_piece_passed(nodes, n, edges, e, i, c))
 }

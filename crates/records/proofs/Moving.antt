@@ -1,5 +1,6 @@
 -- Kind 2 with nodes as records: carried out it leaves one row other than it was, the one at which the node's number is
 -- found; so it changes one record. Assumes nothing.
+use Rattle.std.specs.Prelude.{Option, Some, Result, Ok, Err}
 use mathlib.Core.Path.{◌≡◌, refl, sym, ap, ◌∙◌}
 use mathlib.Core.Bool.{not}
 use mathlib.Core.Logic.{inl, inr}
@@ -13,8 +14,6 @@ use lib.ListN.{length, get_or, set, take, drop, length-take, get_or-append}
 use lib.Seq.{paste, length-paste, length_paste_head, length-take-le, get_or-take, get_or-append-add, drop-cons}
 use lib.Signed.{lt_z}
 use borrow.Author.Tests.{ltb-true, ltb-false, not-false}
-use Rattle.lists.specs.declared.Found.{Found}
-use Rattle.lists.specs.declared.Found.TheVariants.{At}
 use Rattle.lists.specs.Scans.{linked}
 use Rattle.lists.specs.Tables.{place, table}
 use Rattle.lists.proofs.Bools.{which, equal?}
@@ -44,7 +43,7 @@ use Rattle.edit_nodes.proofs.Rows.{move_missing, move_reasons_lem, move_point}
 use Rattle.edit_nodes.proofs.Nodes.{move_carried}
 use Rattle.records.specs.declared.Node.{Node}
 use Rattle.records.specs.declared.Moved.{Moved}
-use Rattle.records.specs.Records.{record_cells, node_table, row_node, node_row, changed_at, unless_refused, moved_nodes}
+use Rattle.records.specs.Records.{record_cells, node_table, row_node, node_row, changed_at, moved_nodes}
 use Rattle.records.specs.Records.{moved_answer}
 use Rattle.records.proofs.Packing.{no_node, length-cells}
 
@@ -71,7 +70,7 @@ module _ (nodes edges faces : List ℤ) (h : Head) (z x y : ℤ) where
     pub formed : Formed nodes edges faces h
     pub i : ℕ
     pub face : ℤ
-    pub at : place (same_z z) 0 column_in ≡ At i
+    pub at : place (same_z z) 0 column_in ≡ Some i
     pub left : ticket l numbers ≡ leaves i face
 
   abbrev reason : ℕ
@@ -85,7 +84,7 @@ module _ (nodes edges faces : List ℤ) (h : Head) (z x y : ℤ) where
   unless-zero zero c e = refl
   unless-zero (suc r) c e = e
 
-  at_row : Formed nodes edges faces h → (i : ℕ) → place (same_z z) 0 column_in ≡ At i → reason ≡ 0
+  at_row : Formed nodes edges faces h → (i : ℕ) → place (same_z z) 0 column_in ≡ Some i → reason ≡ 0
       → first_reason (reasons (sizes_of l) (map_of l) (MoveIsoNode z x y)) ≡ 0 → Carried
   at_row f i p none late =
       let b = node_in f z i p in
@@ -220,16 +219,6 @@ row_paste (y ∷ ys) (suc i) r h =
     let f : suc (suc (suc (suc (i * 4)))) + 4 ≡ suc (suc (suc (suc (i * 4 + 4)))) = omega arith in
     rw (e, f) (ap (λ (l : List ℤ). y.number ∷ y.x ∷ y.y ∷ y.face ∷ l) (row_paste ys i r (omega arith)))
 
--- ---- by whether a call was turned down
-
-pub by_refusal : {A : Type 0} (k : ℕ) (a b : A) → (k ≡ 0 → ⊥) → unless_refused k a b ≡ b
-by_refusal zero a b t = absurd (t refl)
-by_refusal (suc k) a b t = refl
-
-pub by_zero : {A : Type 0} (k : ℕ) (a b : A) → k ≡ 0 → unless_refused k a b ≡ a
-by_zero zero a b t = refl
-by_zero (suc k) a b t = absurd (omega arith)
-
 -- ---- what `move_front` leaves, of a ticket that it had worked out on the first k numbers
 
 module _ (k : ℕ) (flat zs edges es faces ss : List ℤ) (h : Head) (z x y : ℤ) (r : Done) (fits : k ≤ length flat)
@@ -237,7 +226,7 @@ module _ (k : ℕ) (flat zs edges es faces ss : List ℤ) (h : Head) (z x y : �
   abbrev N : List ℤ
   N = take k flat
 
-  abbrev Moves : List Node → Moved → Type 0
+  abbrev Moves : List Node → Result Moved Answer → Type 0
   Moves ns m = ◌≡◌ {A = Outcome} (record {
     lent = lent (node_table (moved_nodes ns m)) es ss h;
     answer = moved_answer ns
@@ -246,7 +235,7 @@ module _ (k : ℕ) (flat zs edges es faces ss : List ℤ) (h : Head) (z x y : �
       (ticket (lent (node_table ns) edges faces h) (pos 2 ∷ z ∷ x ∷ y ∷ []))
 
   -- from the nodes, the head and the answer that are left
-  moves : (ns : List Node) (m : Moved) → node_table ns ≡ N → node_table (moved_nodes ns m) ≡ take k zs → h ≡ r.head
+  moves : (ns : List Node) (m : Result Moved Answer) → node_table ns ≡ N → node_table (moved_nodes ns m) ≡ take k zs → h ≡ r.head
       → moved_answer ns m ≡ r.answer → Moves ns m
   moves ns m e nodes head answer =
       (λ j. record { lent = lent (nodes j) es ss (head j); answer = answer j }) ∙ said
@@ -255,19 +244,11 @@ module _ (k : ℕ) (flat zs edges es faces ss : List ℤ) (h : Head) (z x y : �
   refusal_is : (ticket (lent N edges faces h) (pos 2 ∷ z ∷ x ∷ y ∷ [])).answer.refusal ≡ r.answer.refusal
   refusal_is = ap (λ (o : Outcome). o.answer.refusal) (sym said)
 
-  pub moves_refused : (r.answer.refusal ≡ 0 → ⊥) → (m : Moved) → m.answer ≡ r.answer → (ns : List Node)
-      → node_table ns ≡ N → Moves ns m
-  moves_refused down m same ns e =
+  pub moves_refused : (r.answer.refusal ≡ 0 → ⊥) → (ns : List Node) → node_table ns ≡ N → Moves ns (Err r.answer)
+  moves_refused down ns e =
       let kept = ap (λ (o : Outcome). o.lent) said
       ∙ (refused_kept (lent N edges faces h) (pos 2 ∷ z ∷ x ∷ y ∷ []) (λ q. down (sym refusal_is ∙ q))).lent in
-      let off : m.answer.refusal ≡ 0 → ⊥ = λ q. down (sym (ap (λ (a : Answer). a.refusal) same) ∙ q) in
-      moves ns m e
-      (ap node_table (not-zero m.answer.refusal _ ns off) ∙ e ∙ sym (ap (λ (l : Lent). l.nodes) kept))
-      (sym (ap (λ (l : Lent). l.head) kept)) (not-zero m.answer.refusal _ m.answer off ∙ same)
-    where
-      not-zero : {A : Type 0} (q : ℕ) (a b : A) → (q ≡ 0 → ⊥) → unless_refused q a b ≡ b
-      not-zero zero a b f = absurd (f refl)
-      not-zero (suc q) a b f = refl
+      moves ns (Err r.answer) e (e ∙ sym (ap (λ (l : Lent). l.nodes) kept)) (sym (ap (λ (l : Lent). l.head) kept)) refl
 
   module _ (out : r.answer.refusal ≡ 0) where
     pub done_at : Carried N edges faces h z x y
@@ -322,11 +303,11 @@ module _ (k : ℕ) (flat zs edges es faces ss : List ℤ) (h : Head) (z x y : �
     }
 
     -- the row that is found
-    pub found_at : place (same_z z) 0 (column 4 zs n) ≡ At i
+    pub found_at : place (same_z z) 0 (column 4 zs n) ≡ Some i
     found_at = ap (place (same_z z) 0) kept ∙ done_at.at
 
-    pub row_in : (j : ℕ) → place (same_z z) 0 (column 4 zs n) ≡ At j → j * 4 + 4 ≤ length zs
-    row_in j e = let q : At j ≡ At i = sym e ∙ found_at in let s : j ≡ i = cc in
+    pub row_in : (j : ℕ) → place (same_z z) 0 (column 4 zs n) ≡ Some j → j * 4 + 4 ≤ length zs
+    row_in j e = let q : Some j ≡ Some i = sym e ∙ found_at in let s : j ≡ i = cc in
         omega (arith, s, row.below, n_fits, k_in)
 
     abbrev node : Node
@@ -343,27 +324,23 @@ module _ (k : ℕ) (flat zs edges es faces ss : List ℤ) (h : Head) (z x y : �
           face = c 3 (lit< tt) j;
         })
 
-    pub moves_carried : (j : ℕ) → place (same_z z) 0 (column 4 zs n) ≡ At j → (m : Moved)
-        → m ≡ record { answer = r.answer; count = n; node = row_node zs j } → (ns : List Node) → node_table ns ≡ N
-        → Moves ns m
+    pub moves_carried : (j : ℕ) → place (same_z z) 0 (column 4 zs n) ≡ Some j → (m : Moved)
+        → m ≡ record { count = n; node = row_node zs j } → (ns : List Node) → node_table ns ≡ N → Moves ns (Ok m)
     moves_carried j p m same ns e =
-        let q : At j ≡ At i = sym p ∙ found_at in
+        let q : Some j ≡ Some i = sym p ∙ found_at in
         let s : j ≡ i = cc in
-        let is : m ≡ record { answer = r.answer; count = n; node = node } = same
-        ∙ (λ t. record { answer = r.answer; count = n; node = (ap (row_node zs) s ∙ read_back) t }) in
+        let is : m ≡ record { count = n; node = node } = same
+        ∙ (λ t. record { count = n; node = (ap (row_node zs) s ∙ read_back) t }) in
         let size = length-cells ns in
         let tall : length (node_table ns) ≡ k = ap length e ∙ long in
-        let at : node_row ns n z ≡ At i = sym (row_place ns n z (omega (arith, size, tall, n_fits)))
+        let at : node_row ns n z ≡ Some i = sym (row_place ns n z (omega (arith, size, tall, n_fits)))
         ∙ ap (λ (l : List ℤ). place (same_z z) 0 (column 4 l n)) e ∙ done_at.at in
-        moves ns m e
-        (ap (λ (u : Moved). node_table (moved_nodes ns u)) is
-        ∙ ap (λ (t : ℕ). node_table (unless_refused t (changed_at ns node (node_row ns n z)) ns)) out
-        ∙ ap (λ (f : Found). node_table (changed_at ns node f)) at
+        moves ns (Ok m) e
+        (ap (λ (u : Moved). node_table (moved_nodes ns (Ok u))) is
+        ∙ ap (λ (f : Option ℕ). node_table (changed_at ns node f)) at
         ∙ row_paste ns i node (omega (arith, size, tall, n_fits, row.below))
         ∙ ap (λ (l : List ℤ). paste l (i * 4) (z ∷ x ∷ y ∷ face ∷ []) 4) e ∙ sym pasted)
         (sym (ap (λ (o : Outcome). o.lent.head) all))
-        (ap (moved_answer ns) is
-        ∙ ap (λ (t : ℕ). unless_refused t (record { refusal = lookup_refusal (node_row ns n z); value = pos 0 }) r.answer)
-        out
-        ∙ ap (λ (f : Found). record { refusal = lookup_refusal f; value = pos 0 }) at
+        (ap (λ (u : Moved). moved_answer ns (Ok u)) is
+        ∙ ap (λ (f : Option ℕ). record { refusal = lookup_refusal f; value = pos 0 }) at
         ∙ sym (ap (λ (o : Outcome). o.answer) all))

@@ -6,7 +6,7 @@ use Prim.Native.Nat.{◌<◌, ◌/◌, ◌%◌}
 use native.Mathlib.Omega.{arith}
 use lib.IntN.{ℤ}
 use lib.ListN.{length}
-use lib.Dec.{leb}
+use lib.Dec.{leb, lit<}
 use borrow.Author.Tests.{lt-leb}
 use Rattle.lists.specs.Tests.{same}
 use Rattle.lists.proofs.Bools.{&&-false}
@@ -14,7 +14,8 @@ use Rattle.map.specs.Limits.{node_width, max_nodes}
 use Rattle.map.specs.Rows.{Lent, whole}
 use Rattle.tables.specs.Tables.{whole_rows}
 use Rattle.map.specs.Ticket.{ticket, refused}
-use Rattle.engine.proofs.Answers.{ticket_1}
+use Rattle.engine.proofs.Answers.{ticket-turned}
+use Rattle.map.proofs.Reasons.{first_hit}
 use Rattle.records.specs.declared.Node.{Node}
 use Rattle.records.specs.Records.{node_table}
 use Rattle.records.proofs.Packing.{length-cells}
@@ -29,4 +30,4 @@ too_many_lem ys h =
 pub crowded : (l : Lent) (t : List ℤ) (ys : List Node) → l.nodes ≡ node_table ys → 1000 < length ys → ticket l t
     ≡ refused l 1
 unfolding whole
-crowded l t ys e h = ticket_1 l t (rw (e, too_many_lem ys h))
+crowded l t ys e h = ticket-turned l (lit< tt) t (first_hit 1 _ _ (rw (e, too_many_lem ys h)))

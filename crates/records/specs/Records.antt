@@ -1,8 +1,6 @@
 -- Nodes as records: the same four numbers as a row of the node table.
 use mathlib.Core.List.{List, [], ◌∷◌, flat_map, map}
-use Rattle.std.specs.Prelude.{ℕ, zero, suc, ◌+◌, ◌*◌, ℤ, pos, get_or, take, set}
-use Rattle.lists.specs.declared.Found.{Found}
-use Rattle.lists.specs.declared.Found.TheVariants.{At, Missing}
+use Rattle.std.specs.Prelude.{ℕ, ◌+◌, ◌*◌, ℤ, pos, get_or, take, set, Option, Some, None, Result, Ok, Err}
 use Rattle.lists.specs.Tables.{place}
 use Rattle.map.specs.declared.Answer.{Answer}
 use Rattle.map.specs.Limits.{node_width}
@@ -29,25 +27,19 @@ row_node l i = record {
 }
 
 -- the row of a number among the first n records, or that it is missing
-abbrev pub node_row : List Node → ℕ → ℤ → Found
+abbrev pub node_row : List Node → ℕ → ℤ → Option ℕ
 node_row ns n number = place (same_z number) 0 (map (λ r. r.number) (take n ns))
 
 -- the record at the row that was found; a missing one changes nothing
-abbrev pub changed_at : List Node → Node → Found → List Node
-changed_at ns n (At i) = set ns i n
-changed_at ns n Missing = ns
+abbrev pub changed_at : List Node → Node → Option ℕ → List Node
+changed_at ns n (Some i) = set ns i n
+changed_at ns n None = ns
 
--- a where a call was carried out, b where it was turned down
-abbrev pub unless_refused : {A : Type 0} → ℕ → A → A → A
-unless_refused zero a b = a
-unless_refused (suc r) a b = b
+-- the records after kind 2, which changes one where it was carried out, and its answer
+abbrev pub moved_nodes : List Node → Result Moved Answer → List Node
+moved_nodes ns (Ok m) = changed_at ns m.node (node_row ns m.count m.node.number)
+moved_nodes ns (Err a) = ns
 
--- the records after kind 2, which changes one, and its answer
-abbrev pub moved_nodes : List Node → Moved → List Node
-moved_nodes ns r =
-    unless_refused r.answer.refusal (changed_at ns r.node (node_row ns r.count r.node.number)) ns
-
-abbrev pub moved_answer : List Node → Moved → Answer
-moved_answer ns r =
-    unless_refused r.answer.refusal
-    (record { refusal = lookup_refusal (node_row ns r.count r.node.number); value = pos 0 }) r.answer
+abbrev pub moved_answer : List Node → Result Moved Answer → Answer
+moved_answer ns (Ok m) = record { refusal = lookup_refusal (node_row ns m.count m.node.number); value = pos 0 }
+moved_answer ns (Err a) = a

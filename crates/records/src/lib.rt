@@ -4,7 +4,6 @@
 
 ghost use Rattle.std.specs.Prelude.{◌≡◌, cond, ◌&&◌, [], ◌∷◌, ◌+◌, ◌*◌, ◌≤◌, ◌<◌, ltb, pos, length, take};
 ghost use Rattle.std.proofs.Math.Seq.{paste};
-ghost use Rattle.lists.specs.declared.Found.TheVariants.{At};
 ghost use Rattle.lists.specs.Tables.{table};
 ghost use Rattle.tables.specs.Tables.{same_z};
 ghost use Rattle.map.specs.Rows.{lent};
@@ -16,8 +15,7 @@ ghost use Rattle.ticket_lists.specs.Runs.{Runs};
 ghost use Rattle.records.specs.Records.{record_cells, node_table, row_node, node_row, changed_at};
 ghost use Rattle.records.specs.Records.{moved_nodes, moved_answer};
 
-use lists::Found;
-use map::{Answer, Head, Map};
+use map::{Answer, Head, Map, Refusal};
 use outcomes::Done;
 
 #[derive(Clone, Copy)]
@@ -28,21 +26,12 @@ pub struct Node {
     pub face: i64,
 }
 
-// What kind 2 came to on a node table: the answer and, where it was carried out, the rows in use and the node.
+// Where kind 2 was carried out on a node table: the rows in use, and the node.
 #[derive(Clone, Copy)]
 struct Moved {
-    answer: Answer,
     count: usize,
     node: Node,
 }
-
-// No node.
-const NO_NODE: Node = Node {
-    number: 0,
-    x: 0,
-    y: 0,
-    face: 0,
-};
 
 // Kind 2, MoveIsoNode.
 const MOVE: i64 = 2;
@@ -54,25 +43,22 @@ const CELLS: usize = Map::NODES * map::NODE_WIDTH;
 
 // The answer of a search from row i on: row i if it is one of the first `count` and has the number, or else what the
 // rows after it gave.
-fn found_from(n: Node, i: usize, count: usize, number: i64, later: Found) -> Found
-    ensures { result ≡ cond (ltb i count && same_z number n.number) (At i) later }
+fn found_from(n: Node, i: usize, count: usize, number: i64, later: Option<usize>) -> Option<usize>
+    ensures { result ≡ cond (ltb i count && same_z number n.number) (Some i) later }
 {
     if (i < count) & (number == n.number) {
-        return Found::At(i);
+        return Some(i);
     }
     later
 }
 
 // The row of a node among the first `count`: found, or missing. Each record, the last first, is copied out and asked.
-pub fn find_node(nodes: &[Node], count: usize, number: i64) -> Found
+pub fn find_node(nodes: &[Node], count: usize, number: i64) -> Option<usize>
     ensures { result ≡ node_row nodes.now count number }
 {
-    let mut found = Found::Missing;
-    let mut i = nodes.len();
-    while 0 < i {
-        i -= 1;
-        let n = nodes[i];
-        found = found_from(n, i, count, number, found);
+    let mut found = None;
+    for i in (0..nodes.len()).rev() {
+        found = found_from(nodes[i], i, count, number, found);
     }
     found
 }
@@ -84,18 +70,11 @@ pub fn change_node(nodes: &mut [Node], count: usize, n: Node) -> Answer
       value = pos 0;
     }) × (nodes.new ≡ changed_at nodes.old n (node_row nodes.old count n.number)) }
 {
-    let found = find_node(nodes, count, n.number);
-    let Found::At(i) = found else {
-        return Answer {
-            refusal: 4,
-            value: 0,
-        };
+    let Some(i) = find_node(nodes, count, n.number) else {
+        return Answer::from(Err(Refusal::NoSuchRow));
     };
     nodes[i] = n;
-    Answer {
-        refusal: 0,
-        value: 0,
-    }
+    Answer::from(Ok(0))
 }
 
 // ---- nodes as records and as numbers
@@ -114,11 +93,13 @@ fn row_at(flat: &[i64], i: usize) -> Node
     requires { i * 4 + 4 ≤ length flat.now }
     ensures { result ≡ row_node flat.now i }
 {
-    let number = flat[i * map::NODE_WIDTH];
-    let x = flat[i * map::NODE_WIDTH + map::X];
-    let y = flat[i * map::NODE_WIDTH + map::Y];
-    let face = flat[i * map::NODE_WIDTH + map::NODE_FACE];
-    Node { number, x, y, face }
+    let at = i * map::NODE_WIDTH;
+    Node {
+        number: flat[at],
+        x: flat[at + map::X],
+        y: flat[at + map::Y],
+        face: flat[at + map::NODE_FACE],
+    }
 }
 
 // The nodes as the first rows of a node table.
@@ -127,11 +108,8 @@ fn pack(nodes: &[Node], flat: &mut [i64])
     ensures { flat.new ≡ paste flat.old 0 (node_table nodes.now)
         (length nodes.now * 4) }
 {
-    let mut i = 0;
-    while i < nodes.len() {
-        let n = nodes[i];
-        put_row(flat, i, n);
-        i += 1;
+    for (i, n) in nodes.iter().enumerate() {
+        put_row(flat, i, *n);
     }
 }
 
@@ -140,11 +118,8 @@ fn unpack(flat: &[i64], nodes: &mut [Node])
     requires { length nodes.old * 4 ≤ length flat.now }
     ensures { nodes.new ≡ table (row_node flat.now) 0 (length nodes.old) }
 {
-    let mut i = 0;
-    while i < nodes.len() {
-        let n = row_at(flat, i);
-        nodes[i] = n;
-        i += 1;
+    for i in 0..nodes.len() {
+        nodes[i] = row_at(flat, i);
     }
 }
 
@@ -154,23 +129,14 @@ fn unpack(flat: &[i64], nodes: &mut [Node])
 pub fn set_counts(head: &mut Head, nodes: i64, edges: i64, faces: i64)
     ensures { head.new ≡ with_counts head.old nodes edges faces }
 {
-    let h = *head;
-    *head = head::with_counts(h, nodes, edges, faces);
+    *head = head::with_counts(*head, nodes, edges, faces);
 }
 
 // The next numbers, through the head's loan.
 pub fn set_next(head: &mut Head, node: i64, edge: i64, face: i64)
     ensures { head.new ≡ with_next head.old node edge face }
 {
-    let h = *head;
-    *head = head::with_next(h, node, edge, face);
-}
-
-// All numbers of a head.
-fn set_head(head: &mut Head, h: Head)
-    ensures { head.new ≡ h }
-{
-    *head = h;
+    *head = head::with_next(*head, node, edge, face);
 }
 
 // ---- the head, with nodes as numbers
@@ -187,9 +153,8 @@ pub fn ticket(
         ≡ ticket (lent_now nodes.old edges.old faces.old head.old)
         t.now }
 {
-    let h = *head;
-    let done = engine::ticket(nodes, edges, faces, h, t);
-    set_head(head, done.head);
+    let done = engine::ticket(nodes, edges, faces, *head, t);
+    *head = done.head;
     done.answer
 }
 
@@ -204,9 +169,8 @@ pub fn empty_map(
     ensures { outcome_with nodes.new edges.new faces.new head.new result ≡ emptied
         (lent_now nodes.old edges.old faces.old head.old) points }
 {
-    let h = *head;
-    let done = engine::empty_map(nodes, edges, faces, h, points);
-    set_head(head, done.head);
+    let done = engine::empty_map(nodes, edges, faces, *head, points);
+    *head = done.head;
     done.answer
 }
 
@@ -223,8 +187,7 @@ pub fn edges_of_face(
         ≡ edges_of_face (lent_now nodes.now edges.now faces.now head.now) face
         list.old }
 {
-    let h = *head;
-    engine::edges_of_face(nodes, edges, faces, h, face, list)
+    engine::edges_of_face(nodes, edges, faces, *head, face, list)
 }
 
 // A list of tickets from the empty map on, which is created for curves of at most so many points, 6 or 12.
@@ -248,11 +211,10 @@ pub fn run(
           answer = result;
         }) }
 {
-    let h = *head;
     let done = ticket_lists::run(
-        nodes, edges, faces, h, points, numbers, lengths, refusals, values,
+        nodes, edges, faces, *head, points, numbers, lengths, refusals, values,
     );
-    set_head(head, done.head);
+    *head = done.head;
     done.answer
 }
 
@@ -293,10 +255,9 @@ fn ticket_by(
 {
     pack(nodes, flat);
     let k = nodes.len() * map::NODE_WIDTH;
-    let h = *head;
-    let done = ticket_front(flat, k, edges, faces, h, t);
+    let done = ticket_front(flat, k, edges, faces, *head, t);
     unpack(flat, nodes);
-    set_head(head, done.head);
+    *head = done.head;
     done.answer
 }
 
@@ -316,27 +277,13 @@ pub fn ticket_on(
         t.now }
 {
     if Map::NODES < nodes.len() {
-        return Answer {
-            refusal: 1,
-            value: 0,
-        };
+        return Answer::from(Err(Refusal::NotWhole));
     }
     let mut flat = [0; CELLS];
     ticket_by(nodes, &mut flat, edges, faces, head, t)
 }
 
 // ---- kind 2, with nodes as records
-
-// Turned down: no node is changed.
-fn not_moved(answer: Answer) -> Moved
-    ensures { result.answer ≡ answer }
-{
-    Moved {
-        answer,
-        count: 0,
-        node: NO_NODE,
-    }
-}
 
 // Kind 2 on the first k numbers. The node that it moved is read from its row.
 fn move_front(
@@ -348,7 +295,7 @@ fn move_front(
     node: i64,
     x: i64,
     y: i64,
-) -> Moved
+) -> Result<Moved, Answer>
     requires { k ≤ length flat.old }
     ensures { (ns : _) → node_table ns ≡ take k flat.old
         → record {
@@ -360,22 +307,16 @@ fn move_front(
     let done = ticket_front(flat, k, edges, faces, h, &t);
     let answer = done.answer;
     if answer.refusal != 0 {
-        return not_moved(answer);
+        return Err(answer);
     }
     let count = head::to_usize(h.nodes);
-    let found = tables::find_row(flat, map::NODE_WIDTH, count, node);
-    let Found::At(i) = found else {
-        return not_moved(Answer {
-            refusal: 4,
-            value: 0,
-        });
+    let Some(i) = tables::find_row(flat, map::NODE_WIDTH, count, node) else {
+        return Err(Answer::from(Err(Refusal::NoSuchRow)));
     };
-    let n = row_at(flat, i);
-    Moved {
-        answer,
+    Ok(Moved {
         count,
-        node: n,
-    }
+        node: row_at(flat, i),
+    })
 }
 
 // Kind 2 by way of a node table: the one record is changed.
@@ -398,11 +339,10 @@ fn move_by(
 {
     pack(nodes, flat);
     let k = nodes.len() * map::NODE_WIDTH;
-    let moved = move_front(flat, k, edges, faces, h, node, x, y);
-    if moved.answer.refusal != 0 {
-        return moved.answer;
+    match move_front(flat, k, edges, faces, h, node, x, y) {
+        Ok(moved) => change_node(nodes, moved.count, moved.node),
+        Err(answer) => answer,
     }
-    change_node(nodes, moved.count, moved.node)
 }
 
 // Moves an isolated node into the face around its new point; the head stays as it is.
@@ -423,12 +363,8 @@ pub fn move_node(
         (pos 2 ∷ node ∷ x ∷ y ∷ []) }
 {
     if Map::NODES < nodes.len() {
-        return Answer {
-            refusal: 1,
-            value: 0,
-        };
+        return Answer::from(Err(Refusal::NotWhole));
     }
     let mut flat = [0; CELLS];
-    let h = *head;
-    move_by(nodes, &mut flat, edges, faces, h, node, x, y)
+    move_by(nodes, &mut flat, edges, faces, *head, node, x, y)
 }

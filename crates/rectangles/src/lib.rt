@@ -33,13 +33,6 @@ pub const ZEROS: Extent = Extent {
     high: 0,
 };
 
-// The boxes around the boundaries of two faces.
-#[derive(Clone, Copy)]
-struct Boxes {
-    first: Extent,
-    second: Extent,
-}
-
 // Whether edge row i has the face on a side.
 fn borders(edges: &[i64], i: usize, face: i64) -> bool
     requires { EdgeRow edges.now i × (face ≡ pos (nat_abs face)) }
@@ -47,7 +40,7 @@ fn borders(edges: &[i64], i: usize, face: i64) -> bool
 {
     let left = edges[i * map::EDGE_WIDTH + map::LEFT];
     let right = edges[i * map::EDGE_WIDTH + map::RIGHT];
-    (left == face) | (right == face)
+    left == face || right == face
 }
 
 // The box with the points of edge row i, where that has the face on a side.
@@ -56,17 +49,17 @@ fn with_edge(e: Extent, edges: &[i64], i: usize, face: i64) -> Extent
     ensures { result ≡ fold widen e (boundary (edge_at edges.now i ∷ []) (nat_abs face)) }
 {
     if borders(edges, i, face) {
-        bounding_boxes::united(e, bounding_boxes::extent_of(map_rows::curve_of(edges, i)))
+        e.united(bounding_boxes::extent_of(map_rows::curve_of(edges, i)))
     } else {
         e
     }
 }
 
 // The boxes around the boundaries of two faces, in one pass over the edges.
-fn boundary_boxes(edges: &[i64], count: usize, a: i64, b: i64) -> Boxes
+fn boundary_boxes(edges: &[i64], count: usize, a: i64, b: i64) -> (Extent, Extent)
     requires { EdgesInRange edges.now count × (a ≡ pos (nat_abs a)) × (b ≡ pos (nat_abs b)) }
-    ensures { (result.first ≡ boundary_box (edges_of edges.now count) (nat_abs a))
-        × (result.second ≡ boundary_box (edges_of edges.now count) (nat_abs b)) }
+    ensures { (result.0 ≡ boundary_box (edges_of edges.now count) (nat_abs a))
+        × (result.1 ≡ boundary_box (edges_of edges.now count) (nat_abs b)) }
 {
     let mut first = NO_POINT;
     let mut second = NO_POINT;
@@ -74,7 +67,7 @@ fn boundary_boxes(edges: &[i64], count: usize, a: i64, b: i64) -> Boxes
         first = with_edge(first, edges, i, a);
         second = with_edge(second, edges, i, b);
     }
-    Boxes { first, second }
+    (first, second)
 }
 
 // The box of a boundary as a rectangle: four zeros where it has no point.
@@ -122,10 +115,10 @@ pub fn set_rectangles(edges: &[i64], count: usize, faces: &mut [i64], n: usize, 
     ensures { faces.new ≡ set_two n (rectangle (edges_of edges.now count)) (nat_abs a) (nat_abs b)
         faces.old }
 {
-    if (a == 0) & (b == 0) {
+    if a == 0 && b == 0 {
         return;
     }
-    let boxes = boundary_boxes(edges, count, a, b);
-    set_rectangle(faces, n, a, boxes.first);
-    set_rectangle(faces, n, b, boxes.second);
+    let (first, second) = boundary_boxes(edges, count, a, b);
+    set_rectangle(faces, n, a, first);
+    set_rectangle(faces, n, b, second);
 }

@@ -48,8 +48,7 @@ pub extern "C" fn solgwid_ticket(
 {
     let done = engine::ticket(nodes, edges, faces, head::from_numbers(head), numbers);
     head::put_numbers(head, done.head);
-    let v = done.answer.value;
-    *value = v;
+    *value = done.answer.value;
     done.answer.refusal
 }
 
@@ -70,8 +69,7 @@ pub extern "C" fn solgwid_edges_of_face(
         face list.old }
 {
     let answer = engine::edges_of_face(nodes, edges, faces, head::from_numbers(head), face, list);
-    let v = answer.value;
-    *value = v;
+    *value = answer.value;
     answer.refusal
 }
 
@@ -90,8 +88,7 @@ pub extern "C" fn solgwid_contents(
         list.old }
 {
     let answer = contents::contents(nodes, edges, faces, head::from_numbers(head), list);
-    let v = answer.value;
-    *value = v;
+    *value = answer.value;
     answer.refusal
 }
 

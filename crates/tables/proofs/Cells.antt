@@ -4,21 +4,17 @@ use mathlib.Core.Path.{◌≡◌, sym, ap, ap₂, ◌∙◌}
 use mathlib.Core.List.{List, ◌++◌, append_assoc}
 use Prim.Native.Nat.{ℕ, ◌+◌, ◌-◌, ◌*◌, ◌<◌, ◌≤◌}
 use native.Mathlib.Nat.{suc-mul, mul-le-mul_right, add_assoc}
-use native.Mathlib.Numerals.{add-one}
 use native.Mathlib.Omega.{arith}
-use lib.ListN.{length, get_or, set, take, drop, length-drop, length-append}
-use lib.Seq.{paste, paste-suc, length_paste_head, get_or-append-add, get_or-drop, take-paste, drop-paste, drop-drop}
+use lib.ListN.{length, get_or, set, take, drop, length-append}
+use lib.Seq.{paste, length_paste_head, get_or-append-add, get_or-drop, take-paste, drop-paste, drop-drop}
 use lib.Seq.{take_all}
+use Rattle.std.proofs.lemmas.List.Edits.{paste_more}
 
 module _ {A : Type 0} (d : List A) (at : ℕ) (s : List A) where
-  pub paste_more : (j : ℕ) (z : A) → at + j < length d → j < length s → set (paste d at s j) (at + j) (get_or s j z)
-      ≡ paste d at s (j + 1)
-  paste_more j z hd hs = rw add-one (paste-suc d at s j z hd hs)
-
   -- a turn of a loop whose list was t, and which stores v
   pub copy_more : (j : ℕ) (z : A) (t : List A) (v : A) → at + j < length d → j < length s → t ≡ paste d at s j → v
       ≡ get_or s j z → set t (at + j) v ≡ paste d at s (j + 1)
-  copy_more j z t v hd hs e f = rw (e, f) (paste_more j z hd hs)
+  copy_more j z t v hd hs e f = rw (e, f) (paste_more d at s j z hd hs)
 
   -- the loop's end
   pub copy_end : (j n : ℕ) (t : List A) → t ≡ paste d at s j → j ≡ n → t ≡ paste d at s n
@@ -36,14 +32,6 @@ module _ {A : Type 0} (d : List A) (at : ℕ) (s : List A) where
         ∙ get_or-append-add (take at d ++ take n s) (drop (at + n) d) (k - (at + n)) z
         ∙ get_or-drop (at + n) d (k - (at + n)) z
         ∙ ap (λ (m : ℕ). get_or d m z) (sym e)
-
--- what a loop that moves numbers down reads: the numbers from `from + j` on are as they were
-pub moved_from : {A : Type 0} (l : List A) (at from j : ℕ) (z : A) (t : List A) → at ≤ from → from + j < length l → t
-    ≡ paste l at (drop from l) j → get_or t (from + j) z ≡ get_or (drop from l) j z
-moved_from {A} l at from j z t h k e =
-    ap (λ (m : List A). get_or m (from + j) z) e
-    ∙ paste-after l at (drop from l) j z (omega arith) (simp length-drop (omega arith)) (from + j) (omega arith)
-    ∙ sym (get_or-drop from l j z)
 
 -- two writes side by side are one
 pub paste-paste : {A : Type 0} (d h c : List A) (a m k : ℕ) → length h ≡ m → length c ≡ k → a + m ≤ length d

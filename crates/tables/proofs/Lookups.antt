@@ -1,4 +1,5 @@
 -- What `find_row` answers: a place is a row that is found, and missing is a row that does not exist. Assumes nothing.
+use Rattle.std.specs.Prelude.{Option, Some, None}
 use mathlib.Core.Path.{◌≡◌, refl, sym, ap, ◌∙◌, subst}
 use mathlib.Core.Bool.{Bool, true, false}
 use mathlib.Core.Logic.{◌⊎◌, inl, inr, ⊎_elim}
@@ -13,8 +14,6 @@ use lib.Signed.{lt_z}
 use Rattle.lists.specs.Tests.{same}
 use Rattle.lists.specs.Scans.{any_of, find, is_some}
 use Rattle.lists.specs.Tables.{table, place}
-use Rattle.lists.specs.declared.Found.{Found}
-use Rattle.lists.specs.declared.Found.TheVariants.{At, Missing}
 use Rattle.lists.proofs.Bools.{which, same_true, same_sym}
 use Rattle.lists.proofs.Scans.{place_none, place_at}
 use Rattle.tables.specs.Tables.{same_z, column, Rising}
@@ -29,16 +28,16 @@ module _ {A : Type 0} (p : A → Bool) (f : ℕ → A) where
     pub taken : p (f i) ≡ true
     pub found : find p (table f 0 n) ≡ some (f i)
 
-  found_from : (a n i : ℕ) → place p a (table f a n) ≡ At i → (i < a + n) × (p (f i) ≡ true)
+  found_from : (a n i : ℕ) → place p a (table f a n) ≡ Some i → (i < a + n) × (p (f i) ≡ true)
       × (find p (table f a n) ≡ some (f i))
   found_from a zero i e = let z : ◌≡◌ {A = ℕ} 0 1 = cc in absurd (omega arith)
   found_from a (suc n) i e = pick (p (f a)) refl (λ q. found_from (a + 1) n i q)
     where
-      pick : (b : Bool) → p (f a) ≡ b → (place p (a + 1) (table f (a + 1) n) ≡ At i → (i < a + 1 + n)
+      pick : (b : Bool) → p (f a) ≡ b → (place p (a + 1) (table f (a + 1) n) ≡ Some i → (i < a + 1 + n)
           × (p (f i) ≡ true) × (find p (table f (a + 1) n) ≡ some (f i))) → (i < a + suc n) × (p (f i) ≡ true)
           × (find p (table f a (suc n)) ≡ some (f i))
       pick true q rest =
-          let k : At a ≡ At i = rw q at e in
+          let k : Some a ≡ Some i = rw q at e in
           let j : a ≡ i = cc in
           (omega arith, rw (← j) q, rw (q, j))
       pick false q rest =
@@ -46,23 +45,23 @@ module _ {A : Type 0} (p : A → Bool) (f : ℕ → A) where
           let h : i < a + 1 + n = r.0 in
           (omega arith, r.1, rw q r.2)
 
-  pub place_first : (n i : ℕ) → place p 0 (table f 0 n) ≡ At i → First n i
+  pub place_first : (n i : ℕ) → place p 0 (table f 0 n) ≡ Some i → First n i
   place_first n i e = let r = found_from 0 n i e in
       record { below = let h = r.0 in omega arith; taken = r.1; found = r.2 }
 
-  missing_from : (a n : ℕ) → place p a (table f a n) ≡ Missing → find p (table f a n) ≡ none
+  missing_from : (a n : ℕ) → place p a (table f a n) ≡ None → find p (table f a n) ≡ none
   missing_from a zero e = refl
   missing_from a (suc n) e = pick (p (f a)) refl (λ q. missing_from (a + 1) n q)
     where
-      pick : (b : Bool) → p (f a) ≡ b → (place p (a + 1) (table f (a + 1) n) ≡ Missing → find p (table f (a + 1) n)
+      pick : (b : Bool) → p (f a) ≡ b → (place p (a + 1) (table f (a + 1) n) ≡ None → find p (table f (a + 1) n)
           ≡ none) → find p (table f a (suc n)) ≡ none
       pick true q rest =
-          let k : At a ≡ Missing = rw q at e in
+          let k : Some a ≡ None = rw q at e in
           let z : ◌≡◌ {A = ℕ} 0 1 = cc in
           absurd (omega arith)
       pick false q rest = rw q (rest (rw q at e))
 
-  pub place_missing : (n : ℕ) → place p 0 (table f 0 n) ≡ Missing → find p (table f 0 n) ≡ none
+  pub place_missing : (n : ℕ) → place p 0 (table f 0 n) ≡ None → find p (table f 0 n) ≡ none
   place_missing n e = missing_from 0 n e
 
   -- p takes none after the first m
@@ -109,38 +108,38 @@ module _ {A : Type 0} (w : ℕ) (l : List ℤ) (n : ℕ) (number : A → ℕ) (f
       (λ i s t. ap (same_z (pos m)) (cells i (omega arith)) ∙ same-pos m (number (f i)) ∙ same_sym m (number (f i)))
 
   -- a negative number is missing
-  pub place_negative : (m : ℕ) → place (same_z (negsuc m)) 0 (column w l n) ≡ Missing
+  pub place_negative : (m : ℕ) → place (same_z (negsuc m)) 0 (column w l n) ≡ None
   place_negative m = place_none (λ i. get_or l (i * w) (pos 0)) (same_z (negsuc m)) n
       (λ i t. ap (same_z (negsuc m)) (cells i t))
 
-  pub row_found_lem : (z : ℤ) (i : ℕ) → place (same_z z) 0 (column w l n) ≡ At i → Hit number f n z i
+  pub row_found_lem : (z : ℤ) (i : ℕ) → place (same_z z) 0 (column w l n) ≡ Some i → Hit number f n z i
   row_found_lem (pos m) i e =
       let r = place_first (λ r. same (number r) m) f n i (sym (place-column m) ∙ e) in
       record { below = r.below; is = ap pos (sym (same_true (number (f i)) m r.taken)); found = r.found }
   row_found_lem (negsuc m) i e =
-      let k : At i ≡ Missing = sym e ∙ place_negative m in
+      let k : Some i ≡ None = sym e ∙ place_negative m in
       let z : ◌≡◌ {A = ℕ} 0 1 = cc in
       absurd (omega arith)
 
-  pub row_missing : (m : ℕ) → place (same_z (pos m)) 0 (column w l n) ≡ Missing
+  pub row_missing : (m : ℕ) → place (same_z (pos m)) 0 (column w l n) ≡ None
       → find (λ r. same (number r) m) (table f 0 n) ≡ none
   row_missing m e = place_missing (λ r. same (number r) m) f n (sym (place-column m) ∙ e)
 
 -- an answer with the case it is in
-pub which_place : (r : Found) → ((i : ℕ) × (r ≡ At i)) ⊎ (r ≡ Missing)
-which_place (At i) = inl (i, refl)
-which_place Missing = inr refl
+pub which_place : (r : Option ℕ) → ((i : ℕ) × (r ≡ Some i)) ⊎ (r ≡ None)
+which_place (Some i) = inl (i, refl)
+which_place None = inr refl
 
 -- in rising order row i has the place i
 pub row_place : (w : ℕ) (l : List ℤ) (n : ℕ) → Rising w l n → (i : ℕ) → i < n
-    → place (same_z (get_or l (i * w) (pos 0))) 0 (column w l n) ≡ At i
+    → place (same_z (get_or l (i * w) (pos 0))) 0 (column w l n) ≡ Some i
 row_place w l n r i h =
     let f : ℕ → ℤ = λ k. get_or l (k * w) (pos 0) in
     place_at f (same_z (f i)) n i h (λ k t. below_other (f k) (f i) (rise f n r.rising k i t h)) (same_self (f i))
 
 -- the row that a look meets is the one
 pub row_met : {w : ℕ} {l : List ℤ} {n : ℕ} → Rising w l n → (i : ℕ) → i < n → {z : ℤ} → get_or l (i * w) (pos 0) ≡ z
-    → At i ≡ place (same_z z) 0 (column w l n)
+    → Some i ≡ place (same_z z) 0 (column w l n)
 row_met {w} {l} {n} r i h e = rw (← e) (sym (row_place w l n r i h))
 
 -- the first rows of those that rise

@@ -6,7 +6,9 @@ use mathlib.Core.List.{List, [], ◌∷◌}
 use Prim.Native.Nat.{ℕ, ◌+◌, ◌-◌, ◌<◌, ◌≤◌}
 use native.Mathlib.Omega.{arith}
 use lib.Dec.{leb, ltb}
-use borrow.Author.Tests.{leb-true, ltb-true, ltb-false, le-leb, lt-leb, lt-ltb, le-ltb}
+use Rattle.std.proofs.Common.{is_le, is_lt, nat_cmp}
+use Rattle.std.proofs.lemmas.Grind.{common_steps}
+use borrow.Author.Tests.{leb-true, ltb-true, ltb-false, le-leb, lt-leb, lt-ltb}
 use Rattle.lists.specs.Scans.{all_of, linked}
 use Rattle.lists.specs.Tables.{table}
 use Rattle.lists.proofs.Bools.{which, eq3, &&-false, and_left, and_right}
@@ -63,6 +65,10 @@ rise_after low next a (b ∷ l) h = elim (which (ltb a b)) [
         ∙ ap (λ (x : Bool). ltb b next && x) (s ∙ sym t)
         ∙ sym (swap (linked ltb (b ∷ l)) (ltb b next) (all_of (λ n. leb (a + 1) n && ltb n next) l)))
 
+-- what a range tells of a number
+pub in_range_is : (low n next : ℕ) → is_le (nat_cmp low n) && is_lt (nat_cmp n next) ≡ leb low n && ltb n next
+in_range_is low n next = grind (arith, common_steps)
+
 -- the first number is in range, and those after it rise from it
 pub numbered-cons : (low next a : ℕ) (l : List ℕ) → numbered low next (a ∷ l) ≡ (leb low a && ltb a next)
     && numbered (a + 1) next l
@@ -99,15 +105,10 @@ module _ (g : ℕ → ℕ) (low next i n : ℕ) (h : i < n) where
   numbered_step = ap (numbered low next) (table_step g i n h)
       ∙ numbered-cons low next (g i) (table g (i + 1) (n - (i + 1)))
 
-  pub numbered_hit : low ≤ g i → g i < next → numbered low next (table g i (n - i))
-      ≡ numbered (g i + 1) next (table g (i + 1) (n - (i + 1)))
-  numbered_hit s t = numbered_step ∙ rw (le-leb low (g i) s, lt-ltb (g i) next t)
-
-  pub numbered_low : g i < low → numbered low next (table g i (n - i)) ≡ false
-  numbered_low s = numbered_step ∙ rw (lt-leb low (g i) s)
-
-  pub numbered_high : next ≤ g i → numbered low next (table g i (n - i)) ≡ false
-  numbered_high s = numbered_step ∙ rw (le-ltb (g i) next s, &&-false (leb low (g i)))
+  -- b is the answer of a test whether the number m of row i is from low on and below the next one
+  pub numbered_turn : {m : ℕ} {b : Bool} → m ≡ g i → b ≡ is_le (nat_cmp low m) && is_lt (nat_cmp m next)
+      → numbered low next (table g i (n - i)) ≡ b && numbered (m + 1) next (table g (i + 1) (n - (i + 1)))
+  numbered_turn {m} {b} e t = rw (t, e, in_range_is low (g i) next) numbered_step
 
 pub numbered-end : (g : ℕ → ℕ) (low next i n : ℕ) → n ≤ i → numbered low next (table g i (n - i)) ≡ true
 numbered-end g low next i n h = ap (numbered low next) (table-end g i n h)

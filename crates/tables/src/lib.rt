@@ -10,42 +10,21 @@ ghost use Rattle.lists.specs.Tables.{place, sweep, table};
 ghost use Rattle.tables.specs.Tables.{last_bits, indexed};
 ghost use Rattle.tables.specs.Tables.{same_z, column, Rising, whole_rows, is_zero, numbered, replace_at, closed};
 
-use lists::Found;
-
 // ---- lookup
-
-// A number, or 0 for a negative one.
-fn clamped(z: i64) -> usize {
-    if z < 0 {
-        return 0;
-    }
-    z as usize
-}
-
-// How far a number is above another; 0 where it is less.
-fn steps(from: usize, to: usize) -> usize {
-    if from < to { to - from } else { 0 }
-}
-
-fn lesser(a: usize, b: usize) -> usize
-    ensures { (result ≤ a) × (result ≤ b) }
-{
-    if a < b { a } else { b }
-}
 
 // The row, among the first hi, of a number greater than those of the rows before lo: by halves. A function that calls
 // itself is compiled once, and stays out of the loops that look.
-fn search_row(t: &[i64], w: usize, lo: usize, hi: usize, number: i64) -> Found
+fn search_row(t: &[i64], w: usize, lo: usize, hi: usize, number: i64) -> Option<usize>
     requires { Rising w t.now hi × ((k : ℕ) → k < lo → lt_z (get_or t.now (k * w) (pos 0)) number ≡ true) }
     ensures { result ≡ place (same_z number) 0 (column w t.now hi) }
 {
     if hi <= lo {
-        return Found::Missing;
+        return None;
     }
     let mid = lo + (hi - lo) / 2;
     let z = t[mid * w];
     if z == number {
-        return Found::At(mid);
+        return Some(mid);
     }
     if z < number {
         return search_row(t, w, mid + 1, hi, number);
@@ -54,17 +33,17 @@ fn search_row(t: &[i64], w: usize, lo: usize, hi: usize, number: i64) -> Found
 }
 
 // The row of a number. In a table from which no row after the first was removed the first look meets it.
-pub fn find_row(t: &[i64], w: usize, count: usize, number: i64) -> Found
+pub fn find_row(t: &[i64], w: usize, count: usize, number: i64) -> Option<usize>
     requires { Rising w t.now count }
     ensures { result ≡ place (same_z number) 0 (column w t.now count) }
 {
     if count == 0 {
-        return Found::Missing;
+        return None;
     }
-    let d = steps(clamped(t[0]), clamped(number));
-    let i = lesser(d, count - 1);
+    let steps = usize::try_from(number.saturating_sub(t[0])).unwrap_or(0);
+    let i = steps.min(count - 1);
     if t[i * w] == number {
-        return Found::At(i);
+        return Some(i);
     }
     search_row(t, w, 0, count, number)
 }
@@ -97,15 +76,13 @@ pub fn index_rows(t: &[i64], w: usize, count: usize, index: &mut [u16])
 }
 
 // The row of a number, where the index tells at the first look.
-pub fn find_indexed(t: &[i64], w: usize, count: usize, number: i64, index: &[u16]) -> Found
+pub fn find_indexed(t: &[i64], w: usize, count: usize, number: i64, index: &[u16]) -> Option<usize>
     requires { Rising w t.now count × (length index.now ≡ 4096) }
     ensures { result ≡ place (same_z number) 0 (column w t.now count) }
 {
-    let i = index[last_bits(number)] as usize;
-    if i < count {
-        if t[i * w] == number {
-            return Found::At(i);
-        }
+    let row = usize::from(index[last_bits(number)]);
+    if row < count && t[row * w] == number {
+        return Some(row);
     }
     search_row(t, w, 0, count, number)
 }
@@ -118,17 +95,16 @@ pub fn whole_rows(t: &[i64], w: usize, least: usize, most: usize) -> bool
     ensures { result ≡ whole_rows w least most t.now }
 {
     let n = t.len() / w;
-    (t.len() % w == 0) & (least <= n) & (n <= most)
+    t.len() % w == 0 && (least..=most).contains(&n)
 }
 
-// Whether all numbers are 0.
+// Whether all numbers are 0: all bits are read, with no branch at each.
 pub fn are_zero(t: &[i64]) -> bool
     ensures { result ≡ all_of is_zero t.now }
 {
     let mut bits = 0;
-    for i in 0..t.len() {
-        let z = t[i];
-        bits = bits | z;
+    for z in t {
+        bits |= *z;
     }
     bits == 0
 }
@@ -146,8 +122,7 @@ pub fn natural(t: &[i64], k: usize) -> usize
     requires { (k < length t.now) × T (non_neg (get_or t.now k (pos 0))) }
     ensures { result ≡ nat_abs (get_or t.now k (pos 0)) }
 {
-    let z = t[k];
-    z as usize
+    t[k] as usize
 }
 
 // Whether the first column rises from `least` on and is below `next`.
@@ -158,7 +133,7 @@ pub fn numbers_rise(t: &[i64], w: usize, count: usize, least: usize, next: usize
     let mut low = least;
     for i in 0..count {
         let n = natural(t, i * w);
-        if (n < low) | (next <= n) {
+        if !(low..next).contains(&n) {
             return false;
         }
         low = n + 1;
@@ -168,29 +143,12 @@ pub fn numbers_rise(t: &[i64], w: usize, count: usize, least: usize, next: usize
 
 // ---- rows written
 
-// n numbers from `from` on are moved down to `at` on.
-fn move_down(t: &mut [i64], at: usize, from: usize, n: usize)
-    requires { (at ≤ from) × (from + n ≤ length t.old) }
-    ensures { t.new ≡ paste t.old at (drop from t.old) n }
-{
-    let mut j = 0;
-    while j < n {
-        let v = t[from + j];
-        t[at + j] = v;
-        j += 1;
-    }
-}
-
 // n numbers from `at` on are 0.
 pub fn clear(t: &mut [i64], at: usize, n: usize)
     requires { at + n ≤ length t.old }
     ensures { t.new ≡ paste t.old at (replicate n (pos 0)) n }
 {
-    let mut j = 0;
-    while j < n {
-        t[at + j] = 0;
-        j += 1;
-    }
+    t[at..at + n].fill(0);
 }
 
 // The row stands from `at` on.
@@ -198,12 +156,7 @@ pub fn write(t: &mut [i64], at: usize, row: &[i64])
     requires { at + length row.now ≤ length t.old }
     ensures { t.new ≡ paste t.old at row.now (length row.now) }
 {
-    let mut j = 0;
-    while j < row.len() {
-        let v = row[j];
-        t[at + j] = v;
-        j += 1;
-    }
+    t[at..at + row.len()].copy_from_slice(row);
 }
 
 // Row i goes, the rows after it move down, and the last is cleared.
@@ -213,8 +166,7 @@ pub fn remove_row(t: &mut [i64], w: usize, count: usize, i: usize)
 {
     let at = i * w;
     let end = count * w;
-    let from = at + w;
-    move_down(t, at, from, end - from);
+    t.copy_within(at + w..end, at);
     clear(t, end - w, w);
 }
 

@@ -8,7 +8,6 @@ ghost use Rattle.plane.specs.Points.{InRange, max_coordinate};
 ghost use Rattle.curves.specs.Curves.{Run};
 
 use curve_edits::Line;
-use lists::Found;
 use plane::{Contact, Point, Turn};
 use std::io;
 use std::io::{ErrorKind, Read};
@@ -148,11 +147,7 @@ fn answer_curves(rt: &impl Print, c: &[i64], d: &[i64], p: Point) -> io::Result<
 {
     put_bool(rt, curves::neighbours_differ(c))?;
     put_bool(rt, curves::is_simple(c))?;
-    let found = curves::first_place(c, p);
-    match found {
-        Found::At(i) => put(rt, i as u64)?,
-        Found::Missing => put(rt, NO_PLACE)?,
-    }
+    put(rt, curves::first_place(c, p).map_or(NO_PLACE, |i| i as u64))?;
     put(rt, contact_number(curves::curves_meeting(c, d)))?;
     put_signed(rt, curves::area_of(c))?;
     put_bool(rt, curves::odd_below(c, p))
@@ -171,10 +166,9 @@ fn mixed(h: u64, z: i64) -> u64
 
 // Writes the number of points, and a digest of the numbers of the row.
 fn put_line(rt: &impl Print, l: Line) -> io::Result<()> {
-    let cells = l.cells;
     let mut h: u64 = 0;
-    for i in 0..curves::CELLS {
-        h = mixed(h, cells[i]);
+    for z in &l.cells {
+        h = mixed(h, *z);
     }
     put(rt, l.count as u64)?;
     put(rt, h)
@@ -207,10 +201,7 @@ fn answer(rt: &impl Print, c: &[i64], d: &[i64], p: Point) -> io::Result<()>
 
 // The number, where it is not below 0; any other counts as the greatest.
 fn unsigned_or_max(z: i64) -> u64 {
-    if z < 0 {
-        return u64::MAX;
-    }
-    z as u64
+    u64::try_from(z).unwrap_or(u64::MAX)
 }
 
 // Answers the numbers, where they are a case.
@@ -251,13 +242,10 @@ fn case(rt: &impl Print, v: &[i64]) -> io::Result<()>
 fn digit(b: u8) -> u64
     ensures { result ≤ 9 }
 {
-    if b < b'0' {
-        return 0;
+    match b {
+        b'0'..=b'9' => (b - b'0') as u64,
+        _ => 0,
     }
-    if b'9' < b {
-        return 0;
-    }
-    (b - b'0') as u64
 }
 
 // Three digits from place j on.
@@ -281,8 +269,8 @@ fn number_at(line: &[u8; LINE], j: usize) -> u64
 // The numbers of a line.
 fn numbers(line: &[u8; LINE]) -> [i64; NUMBERS] {
     let mut v = [0i64; NUMBERS];
-    for i in 0..NUMBERS {
-        v[i] = number_at(line, i * FIELD) as i64;
+    for (i, z) in v.iter_mut().enumerate() {
+        *z = number_at(line, i * FIELD) as i64;
     }
     v
 }

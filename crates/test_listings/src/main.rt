@@ -86,26 +86,17 @@ fn put(rt: &impl Print, n: u64) -> io::Result<()> {
 
 // Writes a number with its sign and a blank.
 fn put_signed(rt: &impl Print, z: i64) -> io::Result<()> {
-    if z < 0 {
-        print!(rt; "-")?;
-        let m = -(z + 1);
-        put(rt, (m as u64) + 1)
-    } else {
-        put(rt, z as u64)
-    }
+    print!(rt; "{z} ")
 }
 
 // The value of a digit; any other byte counts as 0.
 fn digit(b: u8) -> u64
     ensures { result ≤ 9 }
 {
-    if b < b'0' {
-        return 0;
+    match b {
+        b'0'..=b'9' => (b - b'0') as u64,
+        _ => 0,
     }
-    if b'9' < b {
-        return 0;
-    }
-    (b - b'0') as u64
 }
 
 // Three digits from place j on.
@@ -139,8 +130,8 @@ fn number_at(record: &[u8; RECORD], j: usize) -> i64
 fn fill(record: &[u8; RECORD], from: usize, table: &mut [i64])
     requires { from + length table.old ≤ 280 }
 {
-    for i in 0..table.len() {
-        table[i] = number_at(record, (from + i) * FIELD);
+    for (i, z) in table.iter_mut().enumerate() {
+        *z = number_at(record, (from + i) * FIELD);
     }
 }
 
@@ -152,8 +143,7 @@ fn length_at(record: &[u8; RECORD], j: usize, most: usize) -> usize
     if record[j] == b'-' {
         return 0;
     }
-    let n = magnitude_at(record, j) as usize;
-    if most < n { most } else { n }
+    most.min(magnitude_at(record, j) as usize)
 }
 
 // The head of a call.
@@ -173,8 +163,8 @@ fn head_of(record: &[u8; RECORD]) -> Head {
 fn put_answer(rt: &impl Print, answer: Answer, list: &[i64]) -> io::Result<()> {
     put(rt, answer.refusal)?;
     put_signed(rt, answer.value)?;
-    for i in 0..list.len() {
-        put_signed(rt, list[i])?;
+    for z in list {
+        put_signed(rt, *z)?;
     }
     println!(rt; "")
 }
@@ -192,7 +182,7 @@ fn list_edges(
 {
     let mut list = [FILLER; LIST];
     let face = number_at(record, FACE);
-    let answer = face_edges::edges_of_face(
+    let listed = face_edges::edges_of_face(
         nodes,
         edges,
         faces,
@@ -200,7 +190,7 @@ fn list_edges(
         face,
         &mut list[..length],
     );
-    put_answer(rt, answer, &list[..length])
+    put_answer(rt, Answer::from(listed), &list[..length])
 }
 
 // Lists the contents of these tables.

@@ -2,7 +2,6 @@
 // looked up, and counts are set. Writes the answers, the first node and the head, a line each.
 #![tactic(auto)]
 
-use lists::Found;
 use map::{Answer, Head};
 use records::Node;
 use std::io;
@@ -43,13 +42,7 @@ fn put(rt: &impl Print, n: u64) -> io::Result<()> {
 
 // Writes a number with its sign and a blank.
 fn put_signed(rt: &impl Print, z: i64) -> io::Result<()> {
-    if z < 0 {
-        print!(rt; "-")?;
-        let m = -(z + 1);
-        put(rt, (m as u64) + 1)
-    } else {
-        put(rt, z as u64)
-    }
+    print!(rt; "{z} ")
 }
 
 fn end_line(rt: &impl Print) -> io::Result<()> {
@@ -82,13 +75,13 @@ fn put_head(rt: &impl Print, h: Head) -> io::Result<()> {
 }
 
 // Writes a row as an answer; a missing one is refusal 4.
-fn put_found(rt: &impl Print, f: Found) -> io::Result<()> {
+fn put_found(rt: &impl Print, f: Option<usize>) -> io::Result<()> {
     match f {
-        Found::At(i) => {
+        Some(i) => {
             put(rt, 0)?;
             put(rt, i as u64)?;
         }
-        Found::Missing => {
+        None => {
             put(rt, 4)?;
             put(rt, 0)?;
         }

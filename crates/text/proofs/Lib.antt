@@ -1,7 +1,6 @@
--- `Words`: words from a place of a line on. `Values`: the value of digits. `Signs`: a word as a number. `Numbers`: a
--- line's numbers, read one after the other. `Whole`: a whole line.
+-- `Numerals`: a word as a number, as the library reads it. `Words`: a line's words among its parts. `Numbers`: their
+-- numbers, one after the other. `Whole`: a whole line.
+pub mod Numerals
 pub mod Words
-pub mod Values
-pub mod Signs
 pub mod Numbers
 pub mod Whole

@@ -1,48 +1,66 @@
--- The words of a line from a place on, as the cursor meets them, and how many there can be. Assumes nothing.
-use mathlib.Core.Path.{◌≡◌, ap, ◌∙◌}
-use mathlib.Core.Bool.{Bool, true, false, cond, not}
-use mathlib.Core.List.{List, [], ◌∷◌}
-use Prim.Native.Nat.{ℕ, zero, suc, ◌+◌, ◌*◌, ◌≤◌, ◌<◌}
-use mathlib.Core.Logic.{⊎_elim}
-use native.Mathlib.Nat.{eq-or-lt_of_le}
-use native.Mathlib.Omega.{arith}
-use lib.ListN.{length, get_or, take, drop, drop_of_length-le}
-use lib.Seq.{drop-cons}
+-- The words of a line are the parts between its blanks that are not empty. Assumes nothing.
+use Rattle.std.specs.Prelude.{◌≡◌, Bool, true, false, cond, not, List, [], ◌∷◌, ℕ, suc, ◌+◌, ◌*◌, ◌≤◌, length}
+use Rattle.std.proofs.Common.{refl, sym, ap, inl, inr, arith, eqb, subst}
+use Rattle.std.specs.List.{slice_split, filter}
+use Rattle.std.proofs.lemmas.Bool.{ne_eqb}
 use Rattle.lists.specs.Tests.{bit}
+use Rattle.lists.proofs.Bools.{which}
 use Rattle.text.specs.Lines.{blank, join_byte, parted, words}
 
-module _ (l : List ℕ) where
-  -- blanks part words and belong to none
-  pub skip_blanks : (k at r : ℕ) → at + k ≡ r → r ≤ length l → ((j : ℕ) → at ≤ j → j < r → blank (get_or l j 0) ≡ true)
-      → words (drop at l) ≡ words (drop r l)
-  skip_blanks zero at r e h b = let q : at ≡ r = omega arith in ap (λ (i : ℕ). words (drop i l)) q
-  skip_blanks (suc k) at r e h b =
-      ap words (drop-cons l at 0 (omega arith))
-      ∙ ap (λ (t : Bool). cond t (words (drop (suc at) l))
-      (join_byte (get_or l at 0) (parted (drop (suc at) l)) (words (drop (suc at) l)))) (b at (omega arith) (omega arith))
-      ∙ skip_blanks k (suc at) r (omega arith) h (λ j p q. b j (omega arith) q)
+abbrev pub some_bytes : List ℕ → Bool
+some_bytes w = not (eqb (length w) 0)
 
-  -- a run of other bytes is a word, where the line ends or a blank follows
-  pub take_word : (k at r : ℕ) → at + suc k ≡ r → r ≤ length l
-      → ((j : ℕ) → at ≤ j → j < r → blank (get_or l j 0) ≡ false) → parted (drop r l) ≡ true → words (drop at l)
-      ≡ take (suc k) (drop at l) ∷ words (drop r l)
-  take_word zero at r e h b p =
-      let q : suc at ≡ r = omega arith in
-      let rest : join_byte (get_or l at 0) (parted (drop (suc at) l)) (words (drop (suc at) l)) ≡ (get_or l at 0 ∷ [])
-      ∷ words (drop r l) = rw (q, p) in
-      rw (drop-cons l at 0 (omega arith), b at (omega arith) (omega arith)) rest
-  take_word (suc k) at r e h b p =
-      let next : parted (drop (suc at) l) ≡ false =
-      rw (drop-cons l (suc at) 0 (omega arith)) (b (suc at) (omega arith) (omega arith)) in
-      let rest = take_word k (suc at) r (omega arith) h (λ j p q. b j (omega arith) q) p in
-      rw (drop-cons l at 0 (omega arith), b at (omega arith) (omega arith)) (rw (next, rest))
+-- whether a part is empty tells whether a blank or the end stands at its front
+record Begins (l : List ℕ) : Type 0 where
+  first : List ℕ
+  rest : List (List ℕ)
+  parts : slice_split blank l ≡ first ∷ rest
+  ends : some_bytes first ≡ not (parted l)
+  others : filter some_bytes (slice_split blank l) ≡ words l
 
-  pub parted_at : (r : ℕ) → r ≤ length l → (r < length l → blank (get_or l r 0) ≡ true) → parted (drop r l) ≡ true
-  parted_at r h b =
-      ⊎_elim
-      (λ e. rw (drop_of_length-le l {i = r} (omega arith)))
-      (λ g. rw (drop-cons l r 0 g) (b g))
-      (eq-or-lt_of_le h)
+pub full : (b : ℕ) (w : List ℕ) → some_bytes (b ∷ w) ≡ true
+full b w = rw (ne_eqb (length (b ∷ w)) 0 (λ e. omega arith))
+
+-- a byte before the first part
+joined : (b : ℕ) (first : List ℕ) (rest ws : List (List ℕ)) (p : Bool) → some_bytes first ≡ not p
+    → filter some_bytes (first ∷ rest) ≡ ws
+    → filter some_bytes ((b ∷ first) ∷ rest) ≡ join_byte b p ws
+joined b [] rest ws true e f =
+    subst (λ (c : Bool). cond c ((b ∷ []) ∷ filter some_bytes rest) (filter some_bytes rest) ≡ (b ∷ []) ∷ ws)
+    (sym (full b [])) (ap (λ (t : List (List ℕ)). (b ∷ []) ∷ t) f)
+joined b (x ∷ xs) rest ws true e f = let q = full x xs in cc
+joined b [] rest ws false e f = cc
+joined b (x ∷ xs) rest ws false e f =
+    let g : (x ∷ xs) ∷ filter some_bytes rest ≡ ws = rw (full x xs) at f in
+    rw (full b (x ∷ xs))
+    (subst (λ (t : List (List ℕ)). (b ∷ x ∷ xs) ∷ filter some_bytes rest ≡ join_byte b false t) g refl)
+
+begins : (l : List ℕ) → Begins l
+begins [] = record { first = []; rest = []; parts = refl; ends = refl; others = refl }
+begins (b ∷ r) = turn (begins r)
+  where
+    turn : Begins r → Begins (b ∷ r)
+    turn s = elim (which (blank b)) [
+      | inl e ↦
+          record {
+            first = [];
+            rest = slice_split blank r;
+            parts = rw e;
+            ends = rw e;
+            others = rw e s.others;
+          }
+      | inr e ↦
+          record {
+            first = b ∷ s.first;
+            rest = s.rest;
+            parts = rw (e, s.parts);
+            ends = rw e (full b s.first);
+            others = rw (e, s.parts) (joined b s.first s.rest (words r) (parted r) s.ends (rw s.parts at s.others));
+          }
+    ]
+
+pub words_split : (l : List ℕ) → filter some_bytes (slice_split blank l) ≡ words l
+words_split l = (begins l).others
 
 -- n bytes have at most (n + 1) / 2 words, and n / 2 where they begin with a blank
 few : (l : List ℕ) → length (words l) * 2 ≤ length l + bit (not (parted l))

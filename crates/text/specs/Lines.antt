@@ -1,6 +1,5 @@
 -- A ticket as a line of text: whole numbers that fit 64 signed bits, parted by blanks; at most 1,000 bytes.
-use Rattle.std.specs.Prelude.{Bool, true, false, cond, ◌&&◌, ◌||◌, List, [], ◌∷◌, ℕ, ◌+◌, ◌*◌, ◌-◌, ◌^◌, leb, ℤ, pos, neg_ℤ, length}
-use Rattle.std.proofs.Math.Option.{Option, none, some}
+use Rattle.std.specs.Prelude.{Bool, true, false, cond, ◌&&◌, ◌||◌, List, [], ◌∷◌, ℕ, ◌+◌, ◌*◌, ◌-◌, ◌^◌, leb, ℤ, pos, neg_ℤ, Option, Some, None, length}
 use Rattle.lists.specs.Tests.{same}
 use Rattle.lists.specs.Scans.{all_of, fold}
 
@@ -33,26 +32,26 @@ value_of ds = fold (λ n b. n * 10 + (b - 48)) 0 ds
 
 -- a magnitude with its sign, where it fits 64 signed bits
 abbrev pub signed_number : Bool → List ℕ → Option ℤ
-signed_number minus [] = none
+signed_number minus [] = None
 signed_number minus (d ∷ ds) =
     let n = value_of (d ∷ ds) in
     let most = cond minus (2 ^ 63) (2 ^ 63 - 1) in
-    cond (all_of digit (d ∷ ds) && leb n most) (some (cond minus (neg_ℤ (pos n)) (pos n))) none
+    cond (all_of digit (d ∷ ds) && leb n most) (Some (cond minus (neg_ℤ (pos n)) (pos n))) None
 
 -- a word as a number: an optional sign and decimal digits, leading zeros among them
 abbrev pub word_number : List ℕ → Option ℤ
-word_number [] = none
+word_number [] = None
 word_number (b ∷ r) = cond (same b 45) (signed_number true r)
     (cond (same b 43) (signed_number false r) (signed_number false (b ∷ r)))
 
 abbrev pub cons_number : Option ℤ → Option (List ℤ) → Option (List ℤ)
-cons_number (some z) (some zs) = some (z ∷ zs)
-cons_number (some z) none = none
-cons_number none zs = none
+cons_number (Some z) (Some zs) = Some (z ∷ zs)
+cons_number (Some z) None = None
+cons_number None zs = None
 
 -- all words as numbers; none where one is no number
 abbrev pub numbers_of : List (List ℕ) → Option (List ℤ)
-numbers_of [] = some []
+numbers_of [] = Some []
 numbers_of (w ∷ ws) = cons_number (word_number w) (numbers_of ws)
 
 abbrev pub max_line : ℕ
@@ -60,4 +59,4 @@ max_line = 1000
 
 -- the numbers of a line; none where the line is longer or has anything but such numbers
 unfoldable pub line_numbers : List ℕ → Option (List ℤ)
-line_numbers l = cond (leb (length l) max_line) (numbers_of (words l)) none
+line_numbers l = cond (leb (length l) max_line) (numbers_of (words l)) None

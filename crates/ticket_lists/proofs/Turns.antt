@@ -45,8 +45,6 @@ column_all {all = all} i {old = old} {new = new} c h =
     sym (take-append-drop i new) ∙ ap₂ (λ (x y : List _). x ++ y) t c.kept
     ∙ ap (λ (k : ℕ). all ++ drop k old) (sym n)
 
--- ---- a ticket has the shorter of its length and what is left of the numbers
-
 -- ---- a list of tickets: g is what all of them give, and r what those that are left give
 
 pub record Left (g r : Grown) (i : ℕ) (old new : List ℕ) (old' new' : List ℤ) : Type 0 where
@@ -72,31 +70,21 @@ after_none : (l : Lent) (numbers : List ℤ) (lengths : List ℕ) (i : ℕ) → 
 unfolding after
 after_none l numbers lengths i h = rw (drop_of_length-le lengths h)
 
--- the first of the tickets left is done, and m numbers are read
-module _ (l : Lent) (numbers : List ℤ) (lengths : List ℕ) (at i m : ℕ) (o : Outcome) where
-  after_first : i < length lengths → m ≡ min (get_or lengths i 0) (length numbers - at) → o
-      ≡ ticket l (take m (drop at numbers))
-      → after l (tickets_of (drop at numbers) (drop i lengths))
-      ≡ answered o.answer (after o.lent (tickets_of (drop (at + m) numbers) (drop (i + 1) lengths)))
+-- the first of the tickets left is done: it has the shorter of its length and what is left of the numbers
+module _ (l : Lent) (left : List ℤ) (lengths : List ℕ) (i m : ℕ) (o : Outcome) where
+  after_first : i < length lengths → m ≡ min (get_or lengths i 0) (length left) → o ≡ ticket l (take m left)
+      → after l (tickets_of left (drop i lengths))
+      ≡ answered o.answer (after o.lent (tickets_of (drop m left) (drop (i + 1) lengths)))
   unfolding after
   after_first h e d =
-      let p = part_min (get_or lengths i 0) (drop at numbers) in
-      rw (
-        d,
-        e,
-        add-one i,
-        drop-cons lengths i 0 h,
-        ← drop-drop (min (get_or lengths i 0) (length numbers - at)) at numbers,
-        ← length-drop at numbers,
-        p.0,
-        p.1,
-      )
+      let p = part_min (get_or lengths i 0) left in
+      rw (d, e, add-one i, drop-cons lengths i 0 h, p.0, p.1)
 
   pub left-next : {g : Grown} {old new : List ℕ} {old' new' : List ℤ}
-      → Left g (after l (tickets_of (drop at numbers) (drop i lengths))) i old new old' new'
+      → Left g (after l (tickets_of left (drop i lengths))) i old new old' new'
       → i < length lengths → length lengths ≤ length new → length lengths ≤ length new'
-      → m ≡ min (get_or lengths i 0) (length numbers - at) → o ≡ ticket l (take m (drop at numbers))
-      → Left g (after o.lent (tickets_of (drop (at + m) numbers) (drop (i + 1) lengths))) (i + 1) old
+      → m ≡ min (get_or lengths i 0) (length left) → o ≡ ticket l (take m left)
+      → Left g (after o.lent (tickets_of (drop m left) (drop (i + 1) lengths))) (i + 1) old
       (set new i o.answer.refusal) old' (set new' i o.answer.value)
   left-next {g = g} {old = old} {new = new} {old' = old'} {new' = new'} f h r v e d =
       left_fewer i (subst (λ (r : Grown). Left g r i old new old' new') (after_first h e d) f) (omega arith)

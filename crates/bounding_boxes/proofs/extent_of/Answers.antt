@@ -1,17 +1,16 @@
 -- `bounding_boxes::extent_of` meets its contract: the extent, widened by the points from i on, is that of the curve.
 -- Assumes nothing.
-use borrow.Author.Rules.{rules}
-use mathlib.Core.Path.{◌≡◌, sym, ap, ◌∙◌}
-use Prim.Native.Nat.{◌+◌, ◌-◌, ◌≤◌, ◌<◌, ◌/◌}
+use mathlib.Core.Path.{sym, ap, ◌∙◌}
+use Prim.Native.Nat.{◌+◌, ◌<◌, ◌/◌}
 use native.Mathlib.Omega.{arith}
 use lib.ListN.{length}
 use Rattle.lists.specs.Scans.{fold}
-use Rattle.lists.proofs.Scans.{fold_step, fold_end}
+use Rattle.lists.proofs.Scans.{fold_step}
 use Rattle.plane.specs.declared.Point.{Point}
-use Rattle.curves.specs.Curves.{point_at, points_from, curve_of}
+use Rattle.curves.specs.Curves.{point_at, points_from}
 use Rattle.curves.proofs.Runs.{curve_is, two-points}
 use Rattle.bounding_boxes.specs.declared.Extent.{Extent}
-use Rattle.bounding_boxes.specs.Extents.{extent_at, widen, extent_of}
+use Rattle.bounding_boxes.specs.Extents.{extent_at, widen}
 use Rattle.bounding_boxes.proofs.extent_of.Goals as goal
 
 pub loop-i-init : goal.loop-i-init
@@ -33,15 +32,5 @@ loop-i-preserved c =
           ∙ sym (fold_step (point_at l) b.loop-i.i (length l / 2) widen b.loop-i.e h) ∙ b.loop-i.invariant.1,
     )
 
-pub returns : goal.returns
-returns c =
-    let b = c in
-    let l = b.args.c.now in
-    let h : length l / 2 ≤ b.loop-i.i = omega arith in
-    sym (fold_end (point_at l) b.loop-i.i (length l / 2) widen b.loop-i.e h) ∙ b.loop-i.invariant.1
-
 pub point_at-p-requires : goal.point_at-p-requires
 point_at-p-requires c = (c.requires, omega (arith, two-points c.requires))
-
-pub point_at-requires : goal.point_at-requires
-point_at-requires c = (c.requires, omega arith)

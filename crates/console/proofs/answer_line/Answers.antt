@@ -14,7 +14,7 @@ returns c =
     let a = c.args in
     let line = a.line.now in
     let list = c.parse.new.list in
-    let numbers : (c.count_of-n.result ≤ length list) × (take c.count_of-n.result list ≡ line_ticket line) =
-    rw c.count_of-n.ensures
+    let numbers : (c.unwrap_or-n.result ≤ length list) × (take c.unwrap_or-n.result list ≡ line_ticket line) =
+    rw c.unwrap_or-n.ensures
     (parsed_numbers (line_numbers line) (replicate 500 (pos 0)) c.parse.result list c.parse.ensures) in
     c.ticket.ensures ∙ ap (ticket (lent a.nodes.now a.edges.now a.faces.now a.h)) numbers.1

@@ -1,4 +1,4 @@
-use Rattle.std.proofs.Common.{arith, ◌≡◌, ◌/◌, ℕ, length, ap, ◌∙◌, subst, add-one, to_z-of_z}
+use Rattle.std.proofs.Common.{arith, ◌≡◌, ◌/◌, ◌+◌, ◌-◌, ◌*◌, ℕ, length, take, drop, ap, ◌∙◌, subst, add-one, to_z-of_z}
 use Rattle.std.specs.Prelude.{ℤ}
 use mir.Syntax.{w64}
 use Rattle.tables.specs.Tables.{row_at}
@@ -14,10 +14,13 @@ pub loop-i-preserved : goal.loop-i-preserved
 loop-i-preserved g c =
     let l = c.loop-i in
     let a = c.args in
-    let w = c.write_row in
+    let w = c.write_tagged in
+    let at = l.i * a.width in
+    let long : at + a.width - at ≡ a.width = omega arith in
+    let row = subst (λ (n : ℕ). Wrote g.W.Write.contents l.streams w.new.streams (tagged_text a.tag (take n (drop at a.table.now)))) long w.ensures in
     rw (add-one l.i)
     (wrote_more g.W.Write.contents a.streams.now l.streams w.new.streams (rows_text a.tag a.width a.table.now l.i)
-    (tagged_text a.tag (row_at a.width a.table.now l.i)) l.invariant w.ensures)
+    (tagged_text a.tag (row_at a.width a.table.now l.i)) l.invariant row)
 
 -- i has come to the count
 pub returns : goal.returns

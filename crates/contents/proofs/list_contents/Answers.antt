@@ -1,8 +1,7 @@
 -- `contents::list_contents` meets its contract: the lines by rows, with the numbers of their rows, are the contents.
 -- Assumes nothing.
-use borrow.Author.Rules.{rules}
 use mathlib.Core.Path.{◌≡◌, sym, ap, ◌∙◌}
-use mathlib.Core.Bool.{Bool, true, false}
+use mathlib.Core.Bool.{Bool, true}
 use mathlib.Core.List.{List, ◌++◌, map}
 use mathlib.Core.Option.{some}
 use Prim.Native.Nat.{ℕ, ◌+◌, ◌*◌, ◌<◌, ◌≤◌}
@@ -11,11 +10,9 @@ use lib.IntN.{ℤ, pos, nat_abs}
 use lib.ListN.{length, drop}
 use mir.Syntax.{w64}
 use mir.Facts.{to_z-of_z}
-use Rattle.map.specs.declared.Answer.{Answer}
 use Rattle.map.specs.declared.Head.{Head}
 use Rattle.map.specs.Rows.{map_of, lent}
 use Rattle.head.proofs.Words.{faces_natural, faces_read}
-use Rattle.form_links.proofs.Words.{flipped}
 use Rattle.outcomes.specs.Outcomes.{Formed}
 use Rattle.outcomes.proofs.Formed.{counted}
 use Rattle.nesting.specs.Contents.{contents, contents_of}
@@ -60,11 +57,11 @@ module _ {nodes edges faces : List ℤ} {h : Head} (form : Formed nodes edges fa
     short s = too_short (lent nodes edges faces h) list form.whole form.in_form _ noted (omega (arith, count, s))
 
     -- what is written is the answer
-    written : (new : List ℤ) (a : Answer) (v : ℤ) → n * 3 ≤ length list
-        → new ≡ cells ++ drop (n * 3) list → a ≡ record { refusal = 0; value = v } → v ≡ pos (n * 3)
-        → record { list = new; answer = a } ≡ contents_of (lent nodes edges faces h) list
-    written new a v room p q w =
-        (λ i. record { list = p i; answer = (q ∙ ap (λ z. record { refusal = 0; value = z }) w) i })
+    written : (new : List ℤ) (v : ℤ) → n * 3 ≤ length list → new ≡ cells ++ drop (n * 3) list → v ≡ pos (n * 3)
+        → record { list = new; answer = record { refusal = 0; value = v } }
+        ≡ contents_of (lent nodes edges faces h) list
+    written new v room p w =
+        (λ i. record { list = p i; answer = record { refusal = 0; value = w i } })
         ∙ ap (λ k. record {
           list = cells ++ drop k list;
           answer = record { refusal = 0; value = pos k };
@@ -92,8 +89,7 @@ returns-then-not-list_all c =
     let s = c.requires in
     let i = c.relate_all-pieces.ensures in
     let read = faces_read (counted s) c.to_usize.ensures in
-    ap (λ (r : Answer). record { list = a.list.now; answer = r }) c.answered.ensures
-    ∙ sym (no_contents (lent a.nodes.now a.edges.now a.faces.now a.h) a.list.now s.whole s.in_form
+    sym (no_contents (lent a.nodes.now a.edges.now a.faces.now a.h) a.list.now s.whole s.in_form
     (none_listed s i (parts s i read) c.list_all.ensures c.if-not-list_all.true))
 
 pub overflow_mul-parts : goal.overflow_mul-parts
@@ -105,8 +101,7 @@ pub returns-then-list-parts : goal.returns-then-list-parts
 returns-then-list-parts c =
     let a = c.args in
     let s = c.requires in
-    ap (λ (r : Answer). record { list = a.list.now; answer = r }) c.answered-then-list-parts.ensures
-    ∙ sym (short s c.relate_all-pieces.ensures (faces_read (counted s) c.to_usize.ensures)
+    sym (short s c.relate_all-pieces.ensures (faces_read (counted s) c.to_usize.ensures)
     c.list_all.ensures c.if-not-list_all.false (omega (arith, c.list_all.auto.notes)) a.list.now c.if-list-parts.true)
 
 pub write_lines-requires : goal.write_lines-requires
@@ -124,6 +119,5 @@ returns c =
     let read = faces_read (counted s) c.to_usize.ensures in
     let k = few s i read in
     written s i read c.list_all.ensures c.if-not-list_all.false (omega (arith, c.list_all.auto.notes)) c.args.list.now
-    _ c.answered-2.result _ (omega (arith, c.if-list-parts.false))
-    c.write_lines.ensures c.answered-2.ensures
+    _ _ (omega (arith, c.if-list-parts.false)) c.write_lines.ensures
     (to_z-of_z {w = w64} {z = pos ((c.to_usize.result + c.relate_all-pieces.result) * 3)} (record { sfits = omega (arith, k) }))

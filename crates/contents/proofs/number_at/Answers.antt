@@ -25,8 +25,8 @@ returns-then-v-eq1 c =
     rw (same_eq _ _ h) (to_z-of_z {w = w64} (sfits_of c.result-1.given)
     ∙ (node_cells_lem a.nodes.now (a.v / 2) (c.requires.node h).ranges).number)
 
-pub overflow_mul-result-2 : goal.overflow_mul-result-2
-overflow_mul-result-2 c = let h = c.requires.face_fits c.if-v-eq1.false in omega (arith, h)
+pub overflow_mul-result-else-v-eq1 : goal.overflow_mul-result-else-v-eq1
+overflow_mul-result-else-v-eq1 c = let h = c.requires.face_fits c.if-v-eq1.false in omega (arith, h)
 
 pub offset_bounds-faces-v : goal.offset_bounds-faces-v
 offset_bounds-faces-v c = let h = c.requires.face_fits c.if-v-eq1.false in omega (arith, h)
@@ -34,9 +34,9 @@ offset_bounds-faces-v c = let h = c.requires.face_fits c.if-v-eq1.false in omega
 pub bounds-faces-v : goal.bounds-faces-v
 bounds-faces-v c = let h = c.requires.face_fits c.if-v-eq1.false in omega (arith, h)
 
-pub returns : goal.returns
-returns c =
+pub returns-else-v-eq1 : goal.returns-else-v-eq1
+returns-else-v-eq1 c =
     let a = c.args in
     let h = c.if-v-eq1.false in
-    rw (same_false _ _ h) (to_z-of_z {w = w64} (sfits_of c.result-2-1.given)
+    rw (same_false _ _ h) (to_z-of_z {w = w64} (sfits_of c.result-else-v-eq1-1.given)
     ∙ face_cell_lem a.faces.now (a.v / 2) (c.requires.face_ranges h))

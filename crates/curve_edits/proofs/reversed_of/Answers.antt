@@ -1,10 +1,8 @@
 -- `curve_edits::reversed_of` meets its contract: the last i points are in the line, the last first. Assumes nothing.
-use borrow.Author.Rules.{rules}
 use mathlib.Core.Path.{◌≡◌, sym, ap, ◌∙◌}
-use mathlib.Core.List.{[], ◌++◌}
-use Prim.Native.Nat.{◌-◌, ◌≤◌}
+use mathlib.Core.List.{[]}
+use Prim.Native.Nat.{◌-◌}
 use native.Mathlib.Omega.{arith}
-use Rattle.lists.specs.Tables.{table}
 use Rattle.curves.specs.Curves.{point_at}
 use Rattle.curves.proofs.Runs.{few_points}
 use Rattle.curve_edits.specs.Lines.{line_of}
@@ -33,9 +31,6 @@ returns c =
     let n = c.point_count-n.ensures in
     let e : c.loop-i.i - 0 ≡ c.point_count-n.result = omega arith in
     c.loop-i.invariant.1 ∙ ap line_of (rw (e, n) (sym (reversed-points c.requires)))
-
-pub point_at-requires : goal.point_at-requires
-point_at-requires c = (c.requires, omega arith)
 
 pub with_point-out-requires : goal.with_point-out-requires
 with_point-out-requires c = (c.point_at.ensures.1, omega (arith, few_points c.requires))

@@ -1,21 +1,18 @@
 -- `curve_edits::without_surplus` meets its contract: what is left of the points before point i is in the line. Assumes
 -- nothing.
-use borrow.Author.Rules.{rules}
 use mathlib.Core.Path.{◌≡◌, ap, ◌∙◌}
 use mathlib.Core.Bool.{Bool}
-use mathlib.Core.Logic.{⊎_elim}
 use mathlib.Core.List.{[], ◌∷◌}
-use Prim.Native.Nat.{◌+◌, ◌-◌, ◌/◌, ◌≤◌, ◌<◌}
+use Prim.Native.Nat.{◌+◌, ◌-◌, ◌/◌, ◌<◌}
 use native.Mathlib.Omega.{arith}
 use lib.ListN.{length}
-use borrow.Author.Tests.{not-true, not-false}
 use Rattle.plane.specs.Segments.{straight_between}
 use Rattle.curves.specs.Curves.{point_at}
 use Rattle.curves.proofs.Runs.{two-points, few_points}
 use Rattle.curves.proofs.Turns.{asked₃}
 use Rattle.curve_edits.specs.Lines.{line_of}
 use Rattle.curve_edits.proofs.Lines.{empty_count}
-use Rattle.curve_edits.proofs.Curves.{LeftSoFar, thinned_start, thinned-dropped, thinned_kept, thinned-end}
+use Rattle.curve_edits.proofs.Curves.{thinned_start, thinned-dropped, thinned_kept}
 use Rattle.curve_edits.proofs.without_surplus.Goals as goal
 use Rattle.curve_edits.proofs.without_surplus.Goals.{then-not-straight_between, else-not-straight_between}
 
@@ -54,14 +51,6 @@ loop-i-preserved c =
       ],
     )
 
-pub returns : goal.returns
-returns c =
-    let s = c in
-    let l = s.args.c.now in
-    let t = s.loop-i.invariant.2 in
-    thinned-end l _ t (omega arith) (omega arith) c.point_at-2.ensures.0
-    (c.with_point.ensures.0 _ t.line)
-
 pub overflow_sub-last : goal.overflow_sub-last
 overflow_sub-last c = omega (arith, two-points c.requires)
 
@@ -74,27 +63,11 @@ with_point-out-requires c = (
   omega (arith, empty_count c.empty.result c.empty.ensures),
 )
 
-pub point_at-p-requires : goal.point_at-p-requires
-point_at-p-requires c = (c.requires, omega arith)
-
-pub point_at-requires-in-loop-i : goal.point_at-requires-in-loop-i
-point_at-requires-in-loop-i c = (c.requires, omega arith)
-
-pub point_at-requires-in-loop-i-2 : goal.point_at-requires-in-loop-i-2
-point_at-requires-in-loop-i-2 c = (c.requires, omega arith)
-
-pub straight_between-requires : goal.straight_between-requires
-straight_between-requires c = (c.point_at-in-loop-i.ensures.1, c.point_at-p.ensures.1, c.point_at-in-loop-i-2.ensures.1)
-
 pub with_point-out-requires-then-not-straight_between : goal.with_point-out-requires-then-not-straight_between
 with_point-out-requires-then-not-straight_between c = let s = c in (
   c.point_at-p.ensures.1,
   omega (arith, s.loop-i.invariant.2.few, few_points s.requires),
 )
-
-pub point_at-requires-2 : goal.point_at-requires-2
-point_at-requires-2 c = let s = c in
-    (s.requires, omega (arith, two-points s.requires))
 
 pub with_point-requires : goal.with_point-requires
 with_point-requires c = let s = c in (

@@ -1,16 +1,11 @@
 -- `curves::area_of` meets its contract: the difference of the two sums and the area of the segments left add up to the
 -- area, and each sum is at most a product of coordinates for each segment passed. Assumes nothing.
-use borrow.Author.Rules.{rules}
-use mathlib.Core.Path.{◌≡◌, sym, ◌∙◌}
+use mathlib.Core.Path.{◌≡◌}
 use Prim.Native.Nat.{◌*◌, ◌-◌, ◌≤◌}
-use native.Mathlib.Omega.{arith}
-use lib.Dec.{lit<}
 use lib.IntN.{pos, ◌+ℤ◌, ◌-ℤ◌}
-use mir.Syntax.{w64}
-use Rattle.integers.specs.Machine.{sub-fits, sub_is}
 use Rattle.curves.specs.Curves.{curve_of}
 use Rattle.curves.specs.Measures.{curve_area}
-use Rattle.curves.proofs.Areas.{area_from, area_start, area_step, area-end}
+use Rattle.curves.proofs.Areas.{area_from}
 use Rattle.curves.proofs.area_of.Given as goal
 
 abbrev pub invariant-loop-i : goal.invariant-loop-i

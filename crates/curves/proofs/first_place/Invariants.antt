@@ -1,14 +1,10 @@
 -- `curves::first_place` meets its contract: the first place from point i on is the first place. Assumes nothing.
-use borrow.Author.Rules.{rules}
-use mathlib.Core.Path.{◌≡◌, sym, ap, ◌∙◌}
+use mathlib.Core.Path.{◌≡◌}
 use Prim.Native.Nat.{◌-◌, ◌≤◌}
-use native.Mathlib.Omega.{arith}
 use Rattle.lists.specs.Tables.{place}
-use Rattle.plane.specs.Segments.{on_segment}
 use Rattle.curves.specs.Curves.{curve_of}
 use Rattle.curves.specs.Tests.{first_place}
-use Rattle.curves.proofs.Runs.{curve_is}
-use Rattle.curves.proofs.Turns.{asked, on, segments_from, place_hit, place_miss, segments-end}
+use Rattle.curves.proofs.Turns.{on, segments_from}
 use Rattle.curves.proofs.first_place.Given as goal
 
 abbrev pub invariant-loop-i : goal.invariant-loop-i

@@ -1,13 +1,9 @@
 -- `curves::is_simple` meets its contract: once the first segment is clear of the others, the rest from point i on is an
 -- arc if and only if the curve is simple. Assumes nothing.
-use borrow.Author.Rules.{rules}
-use borrow.Author.Tests.{not-true, not-false}
-use mathlib.Core.Path.{◌≡◌, sym, ◌∙◌}
-use Prim.Native.Nat.{◌+◌, ◌-◌, ◌≤◌}
+use mathlib.Core.Path.{sym, ◌∙◌}
 use native.Mathlib.Omega.{arith}
-use Rattle.curves.specs.Curves.{point_at, points_from, curve_of}
-use Rattle.curves.specs.Tests.{arc, is_simple}
-use Rattle.curves.proofs.Turns.{first_told, arc_hit, arc_miss, arc-end}
+use Rattle.curves.proofs.Turns.{first_told, arc_hit, arc_miss}
+use Rattle.plane.proofs.Laws.{point_eq}
 use Rattle.curves.proofs.is_simple.Goals as goal
 
 pub returns-then-not-segment_clear : goal.returns-then-not-segment_clear
@@ -16,7 +12,7 @@ returns-then-not-segment_clear c =
     c.requires
     c.segment_count-n.ensures.0
     c.point_at.ensures.0 c.point_at-2.ensures.0
-    c.same_point-closed.ensures c.segment_clear.ensures (c.if-not-segment_clear.true))
+    (c.eq-closed.ensures ∙ point_eq _ _) c.segment_clear.ensures (c.if-not-segment_clear.true))
 
 pub loop-i-init : goal.loop-i-init
 loop-i-init c = (
@@ -25,7 +21,7 @@ loop-i-init c = (
       c.requires
       c.segment_count-n.ensures.0
       c.point_at.ensures.0 c.point_at-2.ensures.0
-      c.same_point-closed.ensures c.segment_clear.ensures (c.if-not-segment_clear.false)),
+      (c.eq-closed.ensures ∙ point_eq _ _) c.segment_clear.ensures (c.if-not-segment_clear.false)),
 )
 
 pub returns-then-not-segment_clear-2 : goal.returns-then-not-segment_clear-2
@@ -43,9 +39,3 @@ loop-i-preserved c =
           (sym c.segment_clear-in-loop-i.ensures ∙ c.if-not-segment_clear-2.false))
           ∙ c.loop-i.invariant.1,
     )
-
-pub returns : goal.returns
-returns c =
-    let s = c in
-    sym (arc-end s.args.c.now _ s.segment_count-n.ensures.0 c.loop-i-test.false)
-    ∙ c.loop-i.invariant.1

@@ -1,13 +1,9 @@
 -- `curves::is_simple` meets its contract: once the first segment is clear of the others, the rest from point i on is an
 -- arc if and only if the curve is simple. Assumes nothing.
-use borrow.Author.Rules.{rules}
-use borrow.Author.Tests.{not-true, not-false}
-use mathlib.Core.Path.{◌≡◌, sym, ◌∙◌}
+use mathlib.Core.Path.{◌≡◌}
 use Prim.Native.Nat.{◌+◌, ◌-◌, ◌≤◌}
-use native.Mathlib.Omega.{arith}
 use Rattle.curves.specs.Curves.{point_at, points_from, curve_of}
 use Rattle.curves.specs.Tests.{arc, is_simple}
-use Rattle.curves.proofs.Turns.{first_told, arc_hit, arc_miss, arc-end}
 use Rattle.curves.proofs.is_simple.Given as goal
 
 abbrev pub invariant-loop-i : goal.invariant-loop-i

@@ -1,14 +1,9 @@
 -- `curves::neighbours_differ` meets its contract: neighbours differ from point i on if and only if they differ. Assumes
 -- nothing.
-use borrow.Author.Rules.{rules}
-use mathlib.Core.Path.{◌≡◌, sym, ◌∙◌}
+use mathlib.Core.Path.{◌≡◌}
 use Prim.Native.Nat.{◌+◌, ◌-◌, ◌≤◌}
-use native.Mathlib.Omega.{arith}
-use Rattle.plane.specs.Points.{same_point}
 use Rattle.curves.specs.Curves.{point_at, points_from, curve_of}
 use Rattle.curves.specs.Tests.{differs, neighbours_differ}
-use Rattle.curves.proofs.Runs.{curve_is}
-use Rattle.curves.proofs.Turns.{asked, differs_hit, differs_miss, differs-end}
 use Rattle.curves.proofs.neighbours_differ.Given as goal
 
 abbrev pub invariant-loop-i : goal.invariant-loop-i

@@ -1,15 +1,12 @@
 -- `curves::odd_below` meets its contract: the segments passed and those left add up to all. Assumes nothing.
-use borrow.Author.Rules.{rules}
-use mathlib.Core.Path.{◌≡◌, sym, ◌∙◌}
+use mathlib.Core.Path.{◌≡◌}
 use Prim.Native.Nat.{◌-◌, ◌≤◌}
-use native.Mathlib.Omega.{arith}
 use Rattle.lists.specs.Tests.{◌⊕◌}
 use Rattle.lists.specs.Scans.{odd_count}
 use Rattle.plane.specs.Below.{passes_below}
 use Rattle.curves.specs.Curves.{curve_of}
 use Rattle.curves.specs.Measures.{odd_below}
-use Rattle.curves.proofs.Runs.{curve_is}
-use Rattle.curves.proofs.Turns.{segments_from, odd_again, odd-end}
+use Rattle.curves.proofs.Turns.{segments_from}
 use Rattle.curves.proofs.odd_below.Given as goal
 
 abbrev pub invariant-loop-i : goal.invariant-loop-i

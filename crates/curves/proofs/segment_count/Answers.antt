@@ -1,11 +1,7 @@
 -- `curves::segment_count` meets its contract. Assumes nothing.
-use borrow.Author.Rules.{rules}
 use native.Mathlib.Omega.{arith}
 use Rattle.curves.proofs.Runs.{two-points, few_points}
 use Rattle.curves.proofs.segment_count.Goals as goal
-
-pub point_count-requires : goal.point_count-requires
-point_count-requires c = search rules
 
 pub overflow_sub-result : goal.overflow_sub-result
 overflow_sub-result c = omega (arith, two-points c.requires)

@@ -1,13 +1,10 @@
 -- `curves::segment_free` meets its contract: the segments from point j on are free of segment i if and only if those
 -- from point i + 2 on are. Assumes nothing.
-use borrow.Author.Rules.{rules}
-use mathlib.Core.Path.{◌≡◌, sym, ◌∙◌}
+use mathlib.Core.Path.{◌≡◌}
 use mathlib.Core.List.{[]}
 use Prim.Native.Nat.{◌+◌, ◌-◌, ◌≤◌}
-use native.Mathlib.Omega.{arith}
 use Rattle.curves.specs.Curves.{point_at, points_from}
 use Rattle.curves.specs.Tests.{may_share, free}
-use Rattle.curves.proofs.Turns.{free_told, free_hit, free_miss, free-end}
 use Rattle.curves.proofs.segment_free.Given as goal
 
 abbrev pub invariant-loop-j : goal.invariant-loop-j

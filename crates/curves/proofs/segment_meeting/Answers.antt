@@ -1,19 +1,8 @@
 -- `curves::segment_meeting` meets its contract: the graver of what was found and of what the segments from point i on
 -- do is the whole. Assumes nothing.
-use borrow.Author.Rules.{rules}
-use mathlib.Core.Path.{◌≡◌, sym, ◌∙◌}
-use mathlib.Core.List.{map}
-use Prim.Native.Nat.{◌-◌, ◌≤◌}
 use native.Mathlib.Omega.{arith}
-use Rattle.plane.specs.declared.Point.{Point}
-use Rattle.plane.specs.declared.Contact.{Contact}
-use Rattle.plane.specs.Below.{Segment}
-use Rattle.curves.specs.declared.Shares.{Shares}
-use Rattle.curves.specs.Curves.{segments, curve_of}
-use Rattle.curves.specs.Tests.{seg_meeting, graver, gravest}
-use Rattle.curves.specs.Shares.{shareable}
 use Rattle.curves.proofs.Runs.{curve_is}
-use Rattle.curves.proofs.Turns.{segments_from, meeting_again, meeting-end}
+use Rattle.curves.proofs.Turns.{meeting_again}
 use Rattle.curves.proofs.segment_meeting.Invariants.{with}
 use Rattle.curves.proofs.segment_meeting.Goals as goal
 
@@ -30,19 +19,3 @@ loop-i-preserved c =
           c.point_at.ensures.0 c.point_at-in-loop-i.ensures.0
           c.segments_meeting-found.ensures b.loop-i.invariant.1,
     )
-
-pub returns : goal.returns
-returns c =
-    let a = c.args in
-    sym (meeting-end a.c.now _ c.segment_count-n.ensures.0 c.loop-i-test.false
-    (with a.l a.a a.b) _) ∙ c.loop-i.invariant.1
-
-pub point_at-requires : goal.point_at-requires
-point_at-requires c = (c.requires.3, omega arith)
-
-pub point_at-requires-in-loop-i : goal.point_at-requires-in-loop-i
-point_at-requires-in-loop-i c = (c.requires.3, omega arith)
-
-pub segments_meeting-found-requires : goal.segments_meeting-found-requires
-segments_meeting-found-requires c = let s = c.requires in
-    (s.0, s.1, s.2, c.point_at.ensures.1, c.point_at-in-loop-i.ensures.1)

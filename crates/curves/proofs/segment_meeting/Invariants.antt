@@ -1,10 +1,8 @@
 -- `curves::segment_meeting` meets its contract: the graver of what was found and of what the segments from point i on
 -- do is the whole. Assumes nothing.
-use borrow.Author.Rules.{rules}
-use mathlib.Core.Path.{◌≡◌, sym, ◌∙◌}
+use mathlib.Core.Path.{◌≡◌}
 use mathlib.Core.List.{map}
 use Prim.Native.Nat.{◌-◌, ◌≤◌}
-use native.Mathlib.Omega.{arith}
 use Rattle.plane.specs.declared.Point.{Point}
 use Rattle.plane.specs.declared.Contact.{Contact}
 use Rattle.plane.specs.Below.{Segment}
@@ -12,8 +10,7 @@ use Rattle.curves.specs.declared.Shares.{Shares}
 use Rattle.curves.specs.Curves.{segments, curve_of}
 use Rattle.curves.specs.Tests.{seg_meeting, graver, gravest}
 use Rattle.curves.specs.Shares.{shareable}
-use Rattle.curves.proofs.Runs.{curve_is}
-use Rattle.curves.proofs.Turns.{segments_from, meeting_again, meeting-end}
+use Rattle.curves.proofs.Turns.{segments_from}
 use Rattle.curves.proofs.segment_meeting.Given as goal
 
 -- how the segment a b meets one of the curve

@@ -1,5 +1,4 @@
 -- `darts::signs_at` meets its contract. Assumes nothing.
-use borrow.Author.Rules.{rules}
 use mathlib.Core.Path.{ap, ◌∙◌}
 use Rattle.plane.specs.Directions.{signs}
 use Rattle.darts.proofs.signs_at.Goals as goal

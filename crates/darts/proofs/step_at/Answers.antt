@@ -1,5 +1,4 @@
 -- `darts::step_at` meets its contract. Assumes nothing.
-use borrow.Author.Rules.{rules}
 use mathlib.Core.Path.{subst}
 use Rattle.lists.specs.Tests.{same}
 use Rattle.curves.specs.Curves.{Curve}

@@ -1,5 +1,4 @@
 -- `directions::class_of` meets its contract. Assumes nothing.
-use borrow.Author.Rules.{rules}
 use Rattle.directions.proofs.Laws.{class_is}
 use Rattle.directions.proofs.class_of.Goals as goal
 

@@ -1,5 +1,4 @@
 -- `directions::passes_below` meets its contract. Assumes nothing.
-use borrow.Author.Rules.{rules}
 use borrow.Author.Tests.{lt-leb, le-leb}
 use Rattle.plane.specs.Below.{passes_below}
 use Rattle.directions.proofs.passes_below.Goals as goal

@@ -1,14 +1,15 @@
 -- `directions::same_direction` meets its contract. Assumes nothing.
-use borrow.Author.Rules.{rules}
+use native.Mathlib.Omega.{arith}
+use Rattle.std.proofs.lemmas.Grind.{common_steps}
+use Rattle.lists.specs.Tests.{same}
+use Rattle.plane.specs.Directions.{same_way}
 use Rattle.plane.proofs.Laws.{null_is}
-use Rattle.directions.proofs.Laws.{same_way_other, same_way-same}
 use Rattle.directions.proofs.same_direction.Goals as goal
 
-pub returns-then-k-l : goal.returns-then-k-l
-returns-then-k-l c = same_way_other _ _ _ _ c.class_of-k.ensures c.class_of-l.ensures c.if-k-l.true
+pub returns-then-class_of : goal.returns-then-class_of
+unfolding same_way same
+returns-then-class_of c = let e = null_is _ _ _ c.cross_turn.ensures c.eq.ensures in grind (arith, common_steps)
 
-pub returns : goal.returns
-returns c =
-    same_way-same _ _ _ _ c.class_of-k.ensures
-    c.class_of-l.ensures _ c.if-k-l.false
-    (null_is _ _ _ c.cross_turn.ensures c.is_straight.ensures)
+pub returns-else-class_of : goal.returns-else-class_of
+unfolding same_way same
+returns-else-class_of c = grind (arith, common_steps)

@@ -17,8 +17,8 @@ use Rattle.tables.proofs.Cells.{row_room}
 use Rattle.edge_rows.specs.Holds.{faced_where, faced_if}
 use Rattle.edge_rows.proofs.give_face.Goals as goal
 
-pub find_row-found-requires : goal.find_row-found-requires
-find_row-found-requires c = node_rows_rising c.requires
+pub find_row-requires : goal.find_row-requires
+find_row-requires c = node_rows_rising c.requires
 
 pub set_face-requires : goal.set_face-requires
 set_face-requires c =
@@ -26,23 +26,23 @@ set_face-requires c =
     let m = f in
     let s = m in
     let a = s.args in
-    let i = f.in-At.i in
+    let i = f.in-Some.i in
     let b = (node_found a.nodes.now a.count s.requires.ranges (to_z w64 (of_z w64 a.node)) i
-    (sym m.find_row-found.ensures ∙ f.in-At.is)).0 in
+    (sym m.find_row.ensures ∙ f.in-Some.is)).0 in
     let r = row_room node_width a.count i b in
     let k = s.requires.fits in
     omega arith
 
-pub returns-in-At : goal.returns-in-At
-returns-in-At c =
+pub returns-in-Some : goal.returns-in-Some
+returns-in-Some c =
     let f = c in
     let m = f in
     let s = m in
     let a = s.args in
     let l = a.nodes.now in
-    let i = f.in-At.i in
+    let i = f.in-Some.i in
     let e = ap (λ (z : ℤ). place (same_z z) 0 (column node_width l a.count)) (sym (to_z-of_z {w = w64} s.ranges.node))
-    ∙ sym m.find_row-found.ensures ∙ f.in-At.is in
+    ∙ sym m.find_row.ensures ∙ f.in-Some.is in
     c.set_face.ensures ∙ ap (set l (i * 4 + 3)) (to_z-of_z {w = w64} s.ranges.face)
     ∙ sym (ap (faced_where l a.face) e)
     ∙ sym (ap (faced_if l a.count a.node a.face) m.if-isolated.true)
@@ -54,5 +54,5 @@ returns-in_default c =
     let a = s.args in
     let l = a.nodes.now in
     let e = ap (λ (z : ℤ). place (same_z z) 0 (column node_width l a.count)) (sym (to_z-of_z {w = w64} s.ranges.node))
-    ∙ sym m.find_row-found.ensures ∙ c.in_default.is in
+    ∙ sym m.find_row.ensures ∙ c.in_default.is in
     sym (ap (faced_if l a.count a.node a.face) m.if-isolated.true ∙ ap (faced_where l a.face) e)

@@ -22,29 +22,29 @@ use Rattle.edge_rows.proofs.undraw.Goals as goal
 abbrev After-give_face : Type 0
 After-give_face = lts.After-give_face tie.the-claims reads.Pre reads.Post
 
-abbrev After-undraw_edge-isolated : Type 0
-After-undraw_edge-isolated = lts.After-undraw_edge tie.the-claims reads.Pre reads.Post
+abbrev After-undraw_edge : Type 0
+After-undraw_edge = lts.After-undraw_edge tie.the-claims reads.Pre reads.Post
 
-pub undraw_edge-isolated-requires : goal.undraw_edge-isolated-requires
-undraw_edge-isolated-requires c =
+pub undraw_edge-start-requires : goal.undraw_edge-start-requires
+undraw_edge-start-requires c =
     let s = c in
     let n = edges_read s.requires.held.counted c.to_usize-e.ensures in
     (rw n s.requires.held.edge-table.rows, rw n s.requires.row)
 
 -- the edges without the row, and whether its nodes are isolated then
-gone : (c : After-undraw_edge-isolated)
+gone : (c : After-undraw_edge)
     → let a = c.args in
     let l = a.edges.now in
     let n = nat_abs a.h.edges in
     let t = unlinked_edge l n a.i in
-    (c.undraw_edge-isolated.new.edges ≡ closed 32 t n a.i)
-    × (c.undraw_edge-isolated.result.start ≡ isolated_without t n a.i (pos (edge_at l a.i).start))
-    × (c.undraw_edge-isolated.result.end ≡ isolated_without t n a.i (pos (edge_at l a.i).end))
+    (c.undraw_edge-start.new.edges ≡ closed 32 t n a.i)
+    × (c.undraw_edge-start.result.0 ≡ isolated_without t n a.i (pos (edge_at l a.i).start))
+    × (c.undraw_edge-start.result.1 ≡ isolated_without t n a.i (pos (edge_at l a.i).end))
 gone c =
     let s = c in
     let a = s.args in
     let l = a.edges.now in
-    let g = c.undraw_edge-isolated.ensures in
+    let g = c.undraw_edge-start.ensures in
     let n = edges_read s.requires.held.counted c.to_usize-e.ensures in (
       g.0 ∙ ap (λ (j : ℕ). closed 32 (unlinked_edge l j a.i) j a.i) n,
       g.1 ∙ isolated_alike l a.i n (sent c.u-1.given ∙ start_cell s.requires),

@@ -1,5 +1,4 @@
 -- `edit_curve::change_at_row` meets its contract: the rows of the edge's nodes are found. Assumes nothing.
-use borrow.Author.Rules.{rules}
 use mathlib.Core.Path.{refl, sym, ap, ap₂, ◌∙◌}
 use Prim.Native.Nat.{ℕ}
 use lib.IntN.{ℤ, pos, nat_abs}

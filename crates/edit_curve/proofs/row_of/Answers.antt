@@ -1,6 +1,8 @@
 -- `edit_curve::row_of` meets its contract: a node that is there is found. Assumes nothing.
-use borrow.Author.Rules.{rules}
-use mathlib.Core.Path.{refl}
+use Rattle.std.specs.Prelude.{Option, Some, None}
+use Rattle.std.specs.Option.{unwrap_or}
+use mathlib.Core.Path.{◌≡◌, refl, sym, ap}
+use Prim.Native.Nat.{ℕ}
 use mir.Syntax.{w64}
 use mir.Facts.{to_z-of_z}
 use Rattle.map.specs.Limits.{node_width}
@@ -9,21 +11,19 @@ use Rattle.outcomes.proofs.Words.{place_told}
 use Rattle.edit_curve.proofs.Changed.{node_placed}
 use Rattle.edit_curve.proofs.row_of.Goals as goal
 
-pub returns-in_default : goal.returns-in_default
-returns-in_default c =
-    let m = c in
-    let s = m in
-    let a = s.args in
-    let e = place_told node_width a.nodes.now {n = a.count} refl (to_z-of_z {w = w64} s.ranges.node)
-    m.find_row-found.ensures c.in_default.is in
-    absurd (node_placed s.requires.0 a.node s.requires.1 s.requires.2 e)
+-- a row that is there is what was unwrapped
+there : (q : Option ℕ) {r : ℕ} → r ≡ unwrap_or q 0 → (q ≡ None → ⊥) → q ≡ Some r
+there (Some i) e d = ap Some (sym e)
+there None e d = absurd (d refl)
 
 pub returns : goal.returns
 returns c =
-    let m = c in
-    let s = m in
-    place_told node_width s.args.nodes.now {n = s.args.count} refl (to_z-of_z {w = w64} s.ranges.node)
-    m.find_row-found.ensures c.in-At.is
+    let a = c.args in
+    let p = c.requires in
+    let z = to_z-of_z {w = w64} c.ranges.node in
+    place_told node_width a.nodes.now {n = a.count} refl z c.find_row.ensures
+    (there c.find_row.result c.unwrap_or.ensures
+    (λ e. node_placed p.0 a.node p.1 p.2 (place_told node_width a.nodes.now {n = a.count} refl z c.find_row.ensures e)))
 
-pub find_row-found-requires : goal.find_row-found-requires
-find_row-found-requires c = node_rows_rising c.requires.0
+pub find_row-requires : goal.find_row-requires
+find_row-requires c = node_rows_rising c.requires.0

@@ -1,5 +1,4 @@
 -- `edit_curve::start_of` meets its contract. Assumes nothing.
-use borrow.Author.Rules.{rules}
 use mathlib.Core.Path.{◌∙◌}
 use Rattle.integers.specs.Signs.{sent}
 use Rattle.map_rows.proofs.Rows.{edge_cells_lem}

@@ -1,6 +1,5 @@
 -- `edit_curve::write_curve` meets its contract: the numbers written are those of the row with the other curve. Assumes
 -- nothing.
-use borrow.Author.Rules.{rules}
 use mathlib.Core.Path.{sym, ap, ◌∙◌}
 use mathlib.Core.List.{List}
 use Prim.Native.Nat.{◌*◌, ◌+◌}

@@ -1,5 +1,4 @@
 -- `edit_dispatch::edit_rows` meets its contract: each arm answers as its routine's numbers are read. Assumes nothing.
-use borrow.Author.Rules.{rules}
 use mathlib.Core.Path.{◌≡◌, sym, ap, ◌∙◌}
 use mathlib.Core.Bool.{true}
 use mathlib.Core.List.{List}
@@ -19,7 +18,6 @@ use Rattle.edit_dispatch.specs.declared.Routine.{Routine}
 use Rattle.edit_dispatch.specs.Shaped.{shaped_rows, kind_for, count_fits, read_for}
 use Rattle.edit_dispatch.proofs.Counts.{Pairs, so_many, pairs_fit}
 use Rattle.edit_dispatch.proofs.Counts.{one-read, two-read, three-read, one-curve_read, two-curve_read}
-use Rattle.edit_dispatch.proofs.Reading.{rows_none}
 use Rattle.edit_dispatch.proofs.Affected.{add-rows, move_rows, remove_rows}
 use Rattle.edit_dispatch.proofs.edit_rows.Lts as lts
 use Rattle.edit_dispatch.proofs.edit_rows.Tie as tie
@@ -259,8 +257,3 @@ returns-in-RemoveEdge c = let e = c.before.before.before.before.before.before.be
     c.remove_edge.ensures
     (one-read (remove_ticket e.in-RemoveEdge.how) (ticketAt s) (remove-edge e)
     (sent c.remove_edge-arg-in-RemoveEdge-3-1.given))
-
-pub returns-in-Unknown : goal.returns-in-Unknown
-returns-in-Unknown c = let e = c in
-    rows_none _ _ _ _ c.refused.ensures
-    (ap (λ (q : Routine). read_for q (drop 1 (ticketAt c.before.before))) e.in-Unknown.is)

@@ -14,7 +14,6 @@ use Rattle.tables.specs.Tables.{same_z, column, closed}
 use Rattle.map_rows.specs.Rows.{edge_at}
 use Rattle.map_rows.proofs.Rows.{edge-row_of}
 use Rattle.outcomes.specs.Variants.{own_or_next}
-use Rattle.outcomes.proofs.Formed.{done}
 use Rattle.head.proofs.Words.{nodes_natural, nodes_read, edges_natural, edges_read}
 use Rattle.edit_heal.specs.Heals.{healed_rows}
 use Rattle.edit_heal.proofs.carry_out.Lts as lts
@@ -61,7 +60,7 @@ returns c =
     let v = c.healed_value in
     let j = c in
     let r = j in
-    let o = c.before.before.before.before.before.before.before.before.before.before.before.before.before.before in
+    let o = c.before.before.before.before.before.before.before.before.before.before.before.before.before in
     let s = o.before in
     let a = s.args in
     let p = s.requires in
@@ -73,7 +72,7 @@ returns c =
       nodes_after = λ k at. j.remove_joint.ensures k
           ((λ t. place (same_z (to_z-of_z {w = w64} (joint-fits s) t)) 0 (column node_width a.nodes.now (n t))) ∙ at)
           ∙ ap (λ (x : ℕ). closed node_width a.nodes.now x k) n;
-      answered = done c.after_heal.ensures (sent v.type_inv ∙ v.ensures) c.carried.ensures;
+      answered = λ t. record { head = c.after_heal.ensures t; value = (sent v.type_inv ∙ v.ensures) t };
     }
 
 pub own_or_next-number-requires : goal.own_or_next-number-requires

@@ -1,5 +1,4 @@
 -- `edit_heal::closed_up` meets its contract. Assumes nothing.
-use borrow.Author.Rules.{rules}
 use borrow.Author.Tests.{lt-ltb, le-ltb}
 use Rattle.edit_heal.proofs.closed_up.Goals as goal
 

@@ -1,5 +1,4 @@
 -- `edit_heal::course_of` meets its contract. Assumes nothing.
-use borrow.Author.Rules.{rules}
 use mathlib.Core.Path.{ap, ◌∙◌}
 use Prim.Native.Nat.{◌%◌}
 use Rattle.lists.proofs.Bools.{same_eq, same_false}

@@ -1,5 +1,4 @@
 -- `edit_heal::heal_numbers` meets its contract. Assumes nothing.
-use borrow.Author.Rules.{rules}
 use Rattle.edit_heal.proofs.heal_numbers.Goals as goal
 
 pub returns-in-New : goal.returns-in-New

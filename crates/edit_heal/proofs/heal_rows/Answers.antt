@@ -1,5 +1,4 @@
 -- `edit_heal::heal_rows` meets its contract. Assumes nothing.
-use borrow.Author.Rules.{rules}
 use mathlib.Core.Path.{◌∙◌}
 use mir.Syntax.{w64}
 use mir.Facts.{to_z-of_z}
@@ -14,7 +13,7 @@ returns c =
     let s = d in
     let a = s.args in
     let z = to_z-of_z {w = w64} s.ranges.number in
-    let t = d.lead_to_healed.ensures ∙ (λ j. led_to_healed a.edges.now a.e a.p a.q (z j)) in
-    let g = r.healed_incidence-s.ensures ∙ (λ j. healed_incidence (t j) a.i a.p a.q (z j)) in
+    let t = d.lead_to_healed.ensures ∙ (λ j. led_to_healed a.edges.now a.e a.s.first a.s.second (z j)) in
+    let g = r.healed_incidence-healed.ensures ∙ (λ j. healed_incidence (t j) a.i a.s.first a.s.second (z j)) in
     c.write_healed.ensures
     ∙ (λ j. healed_written a.how (t j) a.e a.i a.j (cells_of (g j) a.l))

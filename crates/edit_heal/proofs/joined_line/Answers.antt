@@ -1,51 +1,44 @@
 -- `edit_heal::joined_line` meets its contract: the two lines are read as the runs that they are. Assumes nothing.
-use borrow.Author.Rules.{rules}
-use mathlib.Core.Path.{ap₂, ◌∙◌}
+use mathlib.Core.Path.{◌≡◌, subst, ap₂, ◌∙◌}
+use Prim.Native.Nat.{ℕ, ◌*◌}
+use native.Mathlib.Nat.{sub-zero}
 use native.Mathlib.Omega.{arith}
-use Rattle.curves.specs.Curves.{Curve, points}
+use lib.ListN.{take}
+use Rattle.curve_edits.specs.declared.Line.{Line}
+use Rattle.curves.specs.Curves.{Curve, Run, curve_of, points}
 use Rattle.curves.specs.Edits.{joined}
 use Rattle.curve_edits.specs.Lines.{line_of}
 use Rattle.map_rows.proofs.Lines.{LineRead}
-use Rattle.edit_heal.specs.Heals.{course_at}
 use Rattle.edit_heal.proofs.Courses.{course-line}
-use Rattle.edit_heal.proofs.joined_line.Lts as lts
-use Rattle.edit_heal.proofs.joined_line.Tie as tie
-use Rattle.edit_heal.proofs.joined_line.Reads as reads
 use Rattle.edit_heal.proofs.joined_line.Goals as goal
 
--- places in the code, by their names in what is generated
-abbrev After-course_of-a : Type 0
-After-course_of-a = lts.After-course_of tie.the-claims reads.Pre reads.Post
+-- the line as it is read, from its first number on
+whole : {x : Line} {c : Curve} → LineRead x c
+    → Run (take (x.count * 2) x.cells) × (curve_of (take (x.count * 2) x.cells) ≡ c)
+whole {x} {c} r = subst (λ (k : ℕ). Run (take k x.cells) × (curve_of (take k x.cells) ≡ c)) (sub-zero (x.count * 2))
+    (r.run, r.curve)
 
-abbrev After-course_of-b : Type 0
-After-course_of-b = lts.After-course_of2 tie.the-claims reads.Pre reads.Post
+pub overflow_mul-a : goal.overflow_mul-a
+overflow_mul-a c = omega (arith, (course-line _ c.args.p _ c.requires.0 c.course_of-a.ensures).few)
 
-first : (c : After-course_of-a)
-    → let a = c.args in LineRead c.course_of-a.result (course_at a.edges.now a.p)
-first c = let s = c in course-line _ s.args.p _ s.requires.0 c.course_of-a.ensures
+pub overflow_mul-b : goal.overflow_mul-b
+overflow_mul-b c = omega (arith, (course-line _ c.args.q _ c.requires.1 c.course_of-b.ensures).few)
 
-second : (c : After-course_of-b)
-    → let a = c.args in LineRead c.course_of-b.result (course_at a.edges.now a.q)
-second c = let s = c in course-line _ s.args.q _ s.requires.1 c.course_of-b.ensures
+pub shared_ref_as_front-joined_of : goal.shared_ref_as_front-joined_of
+shared_ref_as_front-joined_of c = omega (arith, (course-line _ c.args.p _ c.requires.0 c.course_of-a.ensures).few)
+
+pub shared_ref_as_front-joined_of-2 : goal.shared_ref_as_front-joined_of-2
+shared_ref_as_front-joined_of-2 c = omega (arith, (course-line _ c.args.q _ c.requires.1 c.course_of-b.ensures).few)
+
+pub joined_of-requires : goal.joined_of-requires
+joined_of-requires c = (
+  (whole (course-line _ c.args.p _ c.requires.0 c.course_of-a.ensures)).0,
+  (whole (course-line _ c.args.q _ c.requires.1 c.course_of-b.ensures)).0,
+)
 
 pub returns : goal.returns
 returns c =
-    let r = c.before.before.before.before.before.before.before in
     c.joined_of.ensures
-    ∙ ap₂ (λ (a d : Curve). line_of (points (joined a d))) (first r.before).curve (second r).curve
-
-pub overflow_mul-m : goal.overflow_mul-m
-overflow_mul-m c = omega (arith, (first c.before.before.before.before).few)
-
-pub overflow_mul-n : goal.overflow_mul-n
-overflow_mul-n c = omega (arith, (second c.before.before.before.before).few)
-
-pub slice_bounds-joined_of-end : goal.slice_bounds-joined_of-end
-slice_bounds-joined_of-end c = let k = first c.before.before.before.before.before in omega (arith, k.few, k.long)
-
-pub slice_bounds-joined_of-end-2 : goal.slice_bounds-joined_of-end-2
-slice_bounds-joined_of-end-2 c = let k = second c.before.before.before.before.before in omega (arith, k.few, k.long)
-
-pub joined_of-requires : goal.joined_of-requires
-joined_of-requires c = let r = c.before.before.before.before.before.before in
-    ((first r.before).run, (second r).run)
+    ∙ ap₂ (λ (a d : Curve). line_of (points (joined a d)))
+    (whole (course-line _ c.args.p _ c.requires.0 c.course_of-a.ensures)).1
+    (whole (course-line _ c.args.q _ c.requires.1 c.course_of-b.ensures)).1

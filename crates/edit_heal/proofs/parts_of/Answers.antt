@@ -58,7 +58,7 @@ returns-then-joins_at c =
     let t = c.before.before in
     let s = t in
     let p = s.requires in
-    rw c.dart_leaving.ensures (parts-at_end p.rows s.args.i s.args.j p.first_row p.second_row _
+    rw c.dart_with.ensures (parts-at_end p.rows s.args.i s.args.j p.first_row p.second_row _
     (sent t.v-1.given) (joins t c.if-joins_at.true))
 
 pub returns : goal.returns
@@ -66,5 +66,5 @@ returns c =
     let t = c.before.before in
     let s = t in
     let p = s.requires in
-    rw c.dart_arriving.ensures (parts_at_start p.rows s.args.i s.args.j p.first_row p.second_row _
+    rw c.dart_with-2.ensures (parts_at_start p.rows s.args.i s.args.j p.first_row p.second_row _
     (sent t.u-1.given) (joins t c.if-joins_at.false) p.joint)

@@ -1,5 +1,4 @@
 -- `edit_isolated::face_of` meets its contract. Assumes nothing.
-use borrow.Author.Rules.{rules}
 use mathlib.Core.Path.{ap, ◌∙◌}
 use mathlib.Core.Option
 use mathlib.Core.Option.{Option}

@@ -6,8 +6,7 @@ use lib.Seq.{paste}
 use mir.Syntax.{w64}
 use mir.Facts.{to_z-of_z}
 use Rattle.map.specs.Limits.{node_width}
-use Rattle.outcomes.proofs.Formed.{done}
-use Rattle.head.proofs.Words.{nodes_natural, nodes_read}
+use Rattle.head.proofs.Words.{nodes_read}
 use Rattle.outcomes.proofs.Words.{next_node_back}
 use Rattle.edit_nodes.proofs.push_node.Goals as goal
 
@@ -23,11 +22,5 @@ returns c =
     let z = to_z-of_z {w = w64} s.ranges.around in (
       w.write_node.ensures
           ∙ (λ i. paste a.nodes.now (n i * node_width) (k i ∷ x i ∷ y i ∷ z i ∷ []) node_width),
-      done c.changed.ensures k c.carried.ensures,
+      (λ i. record { head = c.changed.ensures i; value = k i }),
     )
-
-pub to_usize-requires : goal.to_usize-requires
-to_usize-requires c = nodes_natural c.requires.0
-
-pub write_node-requires : goal.write_node-requires
-write_node-requires c = let p = c.requires in rw (nodes_read p.0 c.to_usize.ensures) p.1

@@ -17,7 +17,7 @@ use Rattle.edit_nodes.proofs.remove_at_row.Goals as goal
 pub returns-then-not-is_isolated : goal.returns-then-not-is_isolated
 returns-then-not-is_isolated c =
     let s = c in
-    decided-refused _ _ _ _ _ 9 (lit< tt) c.refused.ensures
+    decided-refused _ _ _ _ _ 9 (lit< tt) refl
     (remove_joined s.requires.0 s.args.i s.requires.1 c.is_isolated.ensures
     c.if-not-is_isolated.true-raw)
 
@@ -37,7 +37,7 @@ returns c =
     let n = nodes_read (counted s.requires.0) r.to_usize.ensures in
     let after = remove_carried s.requires.0 a.i s.requires.1 (r.remove_row.ensures
     ∙ ap (λ (k : ℕ). closed node_width a.nodes.now k a.i) n) in
-    decided-carried _ _ _ _ _ _ _ _ _ (pos 0) (done c.changed.ensures refl c.carried.ensures)
+    decided-carried _ _ _ _ _ _ _ _ _ (pos 0) (done c.changed.ensures refl refl)
     (remove_free s.requires.0 a.i s.requires.1 g.is_isolated.ensures
     r.if-not-is_isolated.false-raw) after.0 after.1
 

@@ -1,10 +1,10 @@
 -- `edit_rectangles::pair_of` meets its contract: the row with the number is found, or there is none. Assumes nothing.
+use Rattle.std.specs.Prelude.{Some}
 use borrow.Author.Rules.{rules}
 use mathlib.Core.Path.{◌≡◌, refl, sym, ap, ◌∙◌}
 use mir.Syntax.{w64}
 use mir.Facts.{to_z-of_z}
 use Rattle.lists.specs.Tables.{place}
-use Rattle.lists.specs.declared.Found.TheVariants.{At}
 use Rattle.map.specs.Limits.{edge_width}
 use Rattle.tables.specs.Tables.{same_z, column}
 use Rattle.map_rows.proofs.Rows.{edge_rows_rising, edge-row_of}
@@ -21,21 +21,21 @@ returns-in_default c =
     sym (ap (pair_found a.edges.now) (place_told edge_width a.edges.now {n = a.count} refl
     (to_z-of_z {w = w64} s.ranges.edge) m.find_row-found.ensures c.in_default.is))
 
-placed : (c : goal.In-At)
+placed : (c : goal.In-Some)
     → let a = c.args in
-    place (same_z a.edge) 0 (column edge_width a.edges.now a.count) ≡ At c.in-At.i
+    place (same_z a.edge) 0 (column edge_width a.edges.now a.count) ≡ Some c.in-Some.i
 placed c =
     let m = c in
     let s = m in
     place_told edge_width s.args.edges.now {n = s.args.count} refl (to_z-of_z {w = w64} s.ranges.edge)
-    m.find_row-found.ensures c.in-At.is
+    m.find_row-found.ensures c.in-Some.is
 
 pub pair_at-requires : goal.pair_at-requires
 pair_at-requires c =
     let d = c in
     let s = d in
     let a = s.args in
-    let i = d.in-At.i in
+    let i = d.in-Some.i in
     edge-row_of s.requires i (edge_found a.edges.now a.count s.requires.ranges a.edge i (placed d)).0
 
 pub returns : goal.returns

@@ -17,7 +17,7 @@ use Rattle.face_rows.specs.Holds.{Healable, TablesOf, face_kept, merged_sides}
 use Rattle.face_rows.proofs.Formed.{formed_healable, formed_held, formed-table, formed_unboxed}
 use Rattle.face_rows.proofs.Healed.{healed_as, kept_as, healed_edge_count}
 use Rattle.edit_remove.proofs.Heal.{healed_held}
-use Rattle.edit_remove.proofs.Undraw.{removed_one, removed_two, removed_as}
+use Rattle.edit_remove.proofs.Undraw.{removed_one, removed_two}
 use Rattle.edit_remove.proofs.remove_and_heal.Lts as lts
 use Rattle.edit_remove.proofs.remove_and_heal.Tie as tie
 use Rattle.edit_remove.proofs.remove_and_heal.Reads as reads
@@ -30,8 +30,8 @@ After-heal_faces-healed = lts.After-heal_faces tie.the-claims reads.Pre reads.Po
 abbrev Else-left-right : Type 0
 Else-left-right = lts.Else1 tie.the-claims reads.Pre reads.Post
 
-pub undraw-after-requires : goal.undraw-after-requires
-undraw-after-requires c =
+pub undraw-head-requires : goal.undraw-head-requires
+undraw-head-requires c =
     let b = c in
     let s = b in
     let a = s.args in
@@ -44,20 +44,17 @@ undraw-after-requires c =
 
 pub returns-then-left-right : goal.returns-then-left-right
 returns-then-left-right c =
-    let u = c in
-    let t = u in
-    let b = t in
-    let s = b in
-    let a = s.args in
+    let a = c.args in
     let row = edge_at a.edges.now a.i in
-    let cells = edge_cells_lem a.edges.now a.i s.requires.cells.ranges in
+    let cells = edge_cells_lem a.edges.now a.i c.requires.cells.ranges in
     let one : row.left ≡ row.right = ap nat_abs
-    (sym cells.left ∙ word_is (sfits_of b.left-1.given) (sfits_of t.right-1.given) t.if-left-right.true
+    (sym cells.left ∙ word_is (sfits_of c.left-1.given) (sfits_of c.right-1.given) c.if-left-right.true
     ∙ cells.right) in
-    removed_as s.requires.formed a.i a.makes c.carried.ensures
-    (removed_one s.requires.formed a.i a.makes one (s.requires.kept one) (sent b.left-1.given ∙ cells.left)
-    u.undraw-after.ensures)
-    (rw (same_eq row.left row.right one))
+    record {
+      holds = removed_one c.requires.formed a.i a.makes one (c.requires.kept one) (sent c.left-1.given ∙ cells.left)
+          c.undraw-head.ensures;
+      value = rw (same_eq row.left row.right one);
+    }
 
 -- the two faces of the row
 healable : (c : Else-left-right)
@@ -87,7 +84,7 @@ healed : (g : After-heal_faces-healed)
     let l = g.heal_faces-healed.new in
     TablesOf (rectangle m.edges) a.nodes.now a.edges.now a.faces.now a.h
     (merged_sides a.makes row m) l.nodes l.edges l.faces g.heal_faces-healed.result.head
-    × (g.heal_faces-healed.result.answer.value ≡ pos (face_kept a.makes row m))
+    × (g.heal_faces-healed.result.value ≡ pos (face_kept a.makes row m))
 healed g =
     let t = g in
     let b = t in
@@ -101,38 +98,34 @@ healed g =
     let told = g.heal_faces-healed.ensures in (
       healed_as a.makes row _ left right (told.0 _ (formed_unboxed f) (formed-table f)),
       kept_as a.makes row (map_of (lent a.nodes.now a.edges.now a.faces.now a.h)) left right
-          told.2,
+          told.1,
     )
 
-pub undraw-after-requires-2 : goal.undraw-after-requires-2
-undraw-after-requires-2 c =
-    let g = c.before.before.before.before.before.before.before in
+pub undraw-head-requires-2 : goal.undraw-head-requires-2
+undraw-head-requires-2 c =
+    let g = c.before.before.before.before.before.before.before.before in
     let t = g.before.before.before.before in
-    let s = t in
-    let a = s.args in
+    let a = t.args in
     let row = edge_at a.edges.now a.i in
     let r = healed g in
-    let v = sent c.struct_told-1.given.1.0.1.1.1.0.1 in
+    let v = sent {z = c.heal_faces-healed.result.value} c.struct_told-1.given.1.0.1 in
     record {
-      held = healed_held s.requires.formed row (healable t) a.makes s.requires.number r.0;
-      row = rw (healed_edge_count (formed_held s.requires.formed) row a.makes r.0) s.requires.row;
+      held = healed_held c.requires.formed row (healable t) a.makes c.requires.number r.0;
+      row = rw (healed_edge_count (formed_held c.requires.formed) row a.makes r.0) c.requires.row;
       natural = ap non_neg (v ∙ r.1);
     }
 
 pub returns : goal.returns
 returns c =
-    let u = c in
-    let d = u in
     let g = c.before.before.before.before.before.before.before.before.before.before.before in
-    let t = g in
-    let s = t in
-    let a = s.args in
+    let a = c.args in
     let row = edge_at a.edges.now a.i in
-    let cells = edge_cells_lem a.edges.now a.i s.requires.cells.ranges in
+    let cells = edge_cells_lem a.edges.now a.i c.requires.cells.ranges in
     let r = healed g in
-    let v = sent d.struct_told-1.given.1.0.1.1.1.0.1 ∙ r.1 in
+    let v = sent {z = c.heal_faces-healed.result.value} c.struct_told-1.given.1.0.1 ∙ r.1 in
     let two = same_false row.left row.right
-    (λ e. t.if-left-right.false (ap (of_z w64) (cells.left ∙ ap pos e ∙ sym cells.right))) in
-    removed_as s.requires.formed a.i a.makes c.carried-2.ensures
-    (removed_two s.requires.formed a.i a.makes s.requires.row r.0 v u.undraw-after-2.ensures)
-    (v ∙ sym (rw two))
+    (λ e. c.if-left-right.false (ap (of_z w64) (cells.left ∙ ap pos e ∙ sym cells.right))) in
+    record {
+      holds = removed_two c.requires.formed a.i a.makes c.requires.row r.0 v c.undraw-head-2.ensures;
+      value = v ∙ sym (rw two);
+    }

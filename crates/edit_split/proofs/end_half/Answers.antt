@@ -1,5 +1,4 @@
 -- `edit_split::end_half` meets its contract. Assumes nothing.
-use borrow.Author.Rules.{rules}
 use mathlib.Core.Path.{◌≡◌, ap, ◌∙◌}
 use Prim.Native.Nat.{◌+◌, ◌*◌}
 use lib.IntN.{pos, neg_ℤ}

@@ -1,5 +1,4 @@
 -- `edit_split::end_number` meets its contract: a next number is small. Assumes nothing.
-use borrow.Author.Rules.{rules}
 use Rattle.head.proofs.Words.{count_read, plus_fits, plus_is}
 use Rattle.edit_split.proofs.end_number.Goals as goal
 

@@ -1,5 +1,4 @@
 -- `edit_split::lies_on` meets its contract. Assumes nothing.
-use borrow.Author.Rules.{rules}
 use mathlib.Core.Path.{ap, ◌∙◌}
 use Rattle.curves.specs.Curves.{Curve}
 use Rattle.curves.specs.Tests.{on_curve}

@@ -1,5 +1,4 @@
 -- `edit_split::split_numbers` meets its contract. Assumes nothing.
-use borrow.Author.Rules.{rules}
 use Rattle.edit_split.proofs.split_numbers.Goals as goal
 
 pub returns-in-New : goal.returns-in-New

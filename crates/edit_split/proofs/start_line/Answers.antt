@@ -1,5 +1,4 @@
 -- `edit_split::start_line` meets its contract. Assumes nothing.
-use borrow.Author.Rules.{rules}
 use mathlib.Core.Path.{ap, ◌∙◌}
 use Rattle.curves.specs.Curves.{Curve, points}
 use Rattle.curves.specs.Edits.{front}

@@ -1,5 +1,4 @@
 -- `edit_split::write_start_half` meets its contract. Assumes nothing.
-use borrow.Author.Rules.{rules}
 use mathlib.Core.Path.{◌∙◌, ap}
 use mathlib.Core.List.{List}
 use Prim.Native.Nat.{◌*◌, ◌-◌}

@@ -1,6 +1,6 @@
 -- `face_edges::ring_size` meets its contract: an unmarked position of the face is the first member of its ring. Assumes
 -- nothing.
-use borrow.Author.Rules.{rules, sfits_of}
+use borrow.Author.Rules.{sfits_of}
 use mathlib.Core.Path.{◌≡◌, refl, sym, ap, ◌∙◌}
 use mathlib.Core.Bool.{Bool, true, false, ◌&&◌, false≢true}
 use mathlib.Core.Logic.{inl, inr}

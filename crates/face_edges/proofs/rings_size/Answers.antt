@@ -1,9 +1,9 @@
 -- `face_edges::rings_size` meets its contract: the size, and what is left, make up the whole. Assumes nothing.
 use mathlib.Core.Path.{◌≡◌, sym, ap, ◌∙◌}
-use Prim.Native.Nat.{◌+◌, ◌*◌, ◌-◌, ◌≤◌}
+use Prim.Native.Nat.{◌+◌, ◌*◌, ◌≤◌}
 use native.Mathlib.Omega.{arith}
 use lib.ListN.{length}
-use Rattle.face_edges.specs.Listing.{Marked, left}
+use Rattle.face_edges.specs.Listing.{left}
 use Rattle.face_edges.proofs.Walks.{none_marked, all_left, none_left_lem, size_left}
 use Rattle.face_edges.proofs.rings_size.Goals as goal
 

@@ -1,10 +1,8 @@
 -- `face_edges::rings_size` meets its contract: the size, and what is left, make up the whole. Assumes nothing.
-use mathlib.Core.Path.{◌≡◌, sym, ap, ◌∙◌}
+use mathlib.Core.Path.{◌≡◌}
 use Prim.Native.Nat.{◌+◌, ◌*◌, ◌-◌, ◌≤◌}
-use native.Mathlib.Omega.{arith}
 use lib.ListN.{length}
 use Rattle.face_edges.specs.Listing.{Marked, left}
-use Rattle.face_edges.proofs.Walks.{none_marked, all_left, none_left_lem, size_left}
 use Rattle.face_edges.proofs.rings_size.Given as goal
 
 abbrev pub invariant-loop-p : goal.invariant-loop-p

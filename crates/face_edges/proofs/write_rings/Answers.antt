@@ -1,7 +1,6 @@
 -- `face_edges::write_rings` meets its contract: what is written, and what is left, make up the whole. Assumes nothing.
 use borrow.Author.Rules.{rules}
 use mathlib.Core.Path.{◌≡◌, refl, sym, ap, ◌∙◌, subst}
-use mathlib.Core.Logic.{⊎_elim}
 use mathlib.Core.List.{List, ◌++◌}
 use Prim.Native.Nat.{ℕ, ◌+◌, ◌*◌, ◌-◌, ◌<◌, ◌≤◌}
 use native.Mathlib.Omega.{arith}
@@ -12,7 +11,7 @@ use mir.Syntax.{w64}
 use mir.Val.{to_z, of_z}
 use mir.Facts.{to_z-of_z}
 use Rattle.map.specs.Ticket.{ring_numbers}
-use Rattle.face_edges.specs.Listing.{Marked, ring_at, left}
+use Rattle.face_edges.specs.Listing.{ring_at, left}
 use Rattle.face_edges.proofs.Walks.{none_marked, all_left, none_left_lem, size_left, some_size, none_size}
 use Rattle.face_edges.proofs.Writes.{size, ring-turn, rest_left, all_written}
 use Rattle.face_edges.proofs.write_rings.Lts as lts

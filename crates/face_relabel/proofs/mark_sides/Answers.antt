@@ -2,7 +2,7 @@
 -- nothing.
 use borrow.Author.Rules.{sfits_of}
 use mathlib.Core.Path.{sym, ap, ◌∙◌, subst}
-use mathlib.Core.Bool.{Bool, ◌&&◌}
+use mathlib.Core.Bool.{Bool, cond, ◌&&◌}
 use mathlib.Core.Logic.{inl, inr}
 use mathlib.Core.List.{List}
 use Prim.Native.Nat.{ℕ, ◌+◌, ◌*◌, ◌-◌, ◌/◌, ◌≤◌}
@@ -50,8 +50,8 @@ bounds-marks-p c =
     let t = c in
     omega (arith, t.loop-p.invariant.1.whole.room, t.loop-p-test.true)
 
-pub mark_of_ring-side-requires : goal.mark_of_ring-side-requires
-mark_of_ring-side-requires c =
+pub is_inside-requires : goal.is_inside-requires
+is_inside-requires c =
     let t = c in
     (t.requires.0, omega (arith, t.loop-p-test.true))
 
@@ -80,13 +80,13 @@ loop-p-preserved c =
             let face = sym cell.ensures
             ∙ word_is (sfits_of cell.type_inv) fits-old (eqb-true _ _ (and_left is-old is_none x.if-dart_cell-s.true)) in
             let none = eqb-true (get_or w.marks w.p 0) 0 (and_right is-old is_none x.if-dart_cell-s.true) in
-            let side = x.mark_of_ring-side in
+            let mark = x.mark_of-mark in
             let ring = x.mark_ring in
-            let after = marked_places a.edges.now a.count w.p side.result w.marks
+            let after = marked_places a.edges.now a.count w.p mark.result w.marks
             w.invariant.1.whole.room ring.ensures.1 in
             subst Next (sym x.marks-is) (marking_ring s.requires.0.edges s.requires.1 a.nodes.now a.n a.s.ring
-            a.s.old a.marks.now w.marks w.p w.invariant.1 t.loop-p-test.true face none side.result
-            side.ensures ring.new.marks after.0 after.1)
+            a.s.old a.marks.now w.marks w.p w.invariant.1 t.loop-p-test.true face none mark.result
+            (mark.ensures ∙ ap (λ (b : Bool). cond b 1 2) x.is_inside.ensures) ring.new.marks after.0 after.1)
         | else-dart_cell-s x ↦
             subst Next (sym x.marks-is)
             (elim (which is-old) [

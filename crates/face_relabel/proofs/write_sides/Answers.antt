@@ -11,6 +11,7 @@ use lib.ListN.{length}
 use mir.Syntax.{w64}
 use mir.Val.{to_z, of_z, SFits}
 use Rattle.integers.specs.Signs.{sent}
+use Rattle.lists.specs.Tests.{same}
 use Rattle.lists.specs.Tables.{sweep}
 use Rattle.lists.proofs.Scans.{sweep_step, sweep-end}
 use Rattle.tables.proofs.Order.{word_is}
@@ -51,6 +52,7 @@ set_dart_cell-requires c =
     (h, omega arith)
 
 pub loop-p-preserved : goal.loop-p-preserved
+unfolding same
 loop-p-preserved c =
     let d = c in
     let t = d in
@@ -61,7 +63,7 @@ loop-p-preserved c =
     let turn : c.if-dart_cell-s.edges ≡ side_shared a.s a.marks.now w.edges w.p =
     elim c.if-dart_cell-s.branch [
       | then-dart_cell-s x ↦
-          let num = x.number_of in
+          let num = x.number in
           x.edges-is ∙ x.set_dart_cell.ensures
           ∙ side_hit a.s a.marks.now w.edges w.p
           (sym cell.ensures ∙ word_is (sfits_of cell.type_inv) fits-old x.if-dart_cell-s.true) (to_z w64 (of_z w64 num.result))

@@ -16,7 +16,6 @@ use Rattle.bounding_boxes.specs.declared.Extent.{Extent}
 use Rattle.map.specs.Rows.{map_of, box_of, lent}
 use Rattle.map_rows.specs.Rows.{nodes_of, edges_of, faces_of}
 use Rattle.map_rows.proofs.Rows.{faces_length}
-use Rattle.outcomes.specs.declared.Done.{Done}
 use Rattle.head.proofs.Words.{is_natural, count_abs, counts-natural}
 use Rattle.face_rows.specs.Holds.{Unboxed, sides_alone, face_kept}
 use Rattle.face_rows.proofs.FaceRows.{table_distinct, without_length}
@@ -108,7 +107,7 @@ without_face-requires c =
 
 pub returns : goal.returns
 returns c =
-    let f = c.before.before.before.before.before.before.before.before.before.before in
+    let f = c.before.before.before.before.before.before.before.before.before in
     let n = f in
     let s = f.before.before.before in
     let a = s.args in
@@ -127,9 +126,8 @@ returns c =
           (nat_abs (to_z w64 (of_z w64 f.face_left-face.result))) (ap nat_abs (vf ∙ face f)) _ _ _ _ rows.0 rows.1
           (rw (count, left s, right s) at
           (c.heal_row.ensures box (rw vf (fresh f box none)) (rw count t)))
-          (ap (λ (d : Done). d.head) c.carried.ensures ∙ c.without_face.ensures),
-      ap (λ (d : Done). d.answer.refusal) c.carried.ensures,
-      ap (λ (d : Done). d.answer.value) c.carried.ensures ∙ vf ∙ face f,
+          c.without_face.ensures,
+      vf ∙ face f,
     )
 
 pub counts_of-n-requires : goal.counts_of-n-requires

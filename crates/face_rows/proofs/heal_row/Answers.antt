@@ -11,12 +11,15 @@ use lib.Signed.{non_neg, lt_z}
 use mir.Syntax.{w64}
 use mir.Val.{to_z, of_z}
 use mir.Facts.{to_z-of_z}
+use Rattle.std.specs.Int.{int_max}
+use Rattle.integers.specs.Signs.{sent}
+use Rattle.tables.proofs.Tests.{pos_abs}
 use Rattle.lists.proofs.Bools.{cond_has}
 use Rattle.bounding_boxes.specs.declared.Extent.{Extent}
 use Rattle.map_rows.specs.Rows.{faces_of, faces_in}
 use Rattle.map_rows.proofs.Rows.{faces_length}
 use Rattle.face_rows.specs.Holds.{FaceTable, without_face, heal_faces}
-use Rattle.face_rows.proofs.Words.{either}
+use Rattle.face_rows.proofs.Words.{greatest_is}
 use Rattle.face_rows.proofs.FaceRows.{table_distinct, table_long, without_length, two_less, cells_here}
 use Rattle.face_rows.proofs.FaceRows.{pushed_here, table_here, removed_here}
 use Rattle.face_rows.proofs.heal_row.Lts as lts
@@ -26,13 +29,13 @@ use Rattle.face_rows.proofs.heal_row.Goals as goal
 
 -- places in the code, by their names in what is generated
 abbrev After-remove_face : Type 0
-After-remove_face = lts.After-remove_face tie.the-claims reads.Pre reads.Post
+After-remove_face = lts.After-remove_face tie.the-claims reads.Pre reads.Post tie.handed_clauses
 
 abbrev After-remove_face-then-makes : Type 0
-After-remove_face-then-makes = lts.After-remove_face2 tie.the-claims reads.Pre reads.Post
+After-remove_face-then-makes = lts.After-remove_face2 tie.the-claims reads.Pre reads.Post tie.handed_clauses
 
 abbrev Start : Type 0
-Start = lts.Start tie.the-claims reads.Pre reads.Post
+Start = lts.Start tie.the-claims reads.Pre reads.Post tie.handed_clauses
 
 abbrev faces : Start → List ℕ
 faces s = faces_of s.args.faces.now s.args.count
@@ -101,21 +104,25 @@ push_face-requires c =
     )
 
 -- the higher of the two, as it was passed
-higher : (c : goal.After-select)
+higher : (c : goal.After-max)
     → let a = c.args in
-    to_z w64 (of_z w64 c.select.result) ≡ cond (lt_z a.left a.right) a.right a.left
+    to_z w64 (of_z w64 c.max.result) ≡ cond (lt_z a.left a.right) a.right a.left
 higher c =
-    let s = c in
-    either (lt_z s.args.left s.args.right) s.ranges.right s.ranges.left
-    (rw (to_z-of_z {w = w64} s.ranges.left, to_z-of_z {w = w64} s.ranges.right) at c.select.ensures)
+    let a = c.args in
+    let l = to_z-of_z {w = w64} c.ranges.left in
+    let r = to_z-of_z {w = w64} c.ranges.right in
+    let x = pos_abs a.left c.requires.left-natural in
+    let y = pos_abs a.right c.requires.right_natural in
+    sent c.max.type_inv ∙ c.max.ensures.value ∙ (λ i. int_max ((l ∙ x) i) ((r ∙ y) i))
+    ∙ greatest_is (nat_abs a.left) (nat_abs a.right)
+    ∙ sym (λ i. cond (lt_z (x i) (y i)) (y i) (x i))
 
 pub remove_face-requires-else-makes : goal.remove_face-requires-else-makes
-remove_face-requires-else-makes c =
-    let s = c in (
-      (s.requires.table.0, s.requires.table.2),
-      ap non_neg (higher c) ∙ cond_has (λ (z : ℤ). non_neg z ≡ true) (lt_z s.args.left s.args.right)
-          s.requires.right_natural s.requires.left-natural,
-    )
+remove_face-requires-else-makes c = (
+  (c.requires.table.0, c.requires.table.2),
+  ap non_neg (higher c) ∙ cond_has (λ (z : ℤ). non_neg z ≡ true) (lt_z c.args.left c.args.right)
+      c.requires.right_natural c.requires.left-natural,
+)
 
 pub returns-then-makes : goal.returns-then-makes
 returns-then-makes c box none t =
@@ -135,12 +142,10 @@ returns-then-makes c box none t =
 
 pub returns-else-makes : goal.returns-else-makes
 returns-else-makes c box none t =
-    let s = c.before.before.before.before.before in
-    let a = s.args in
-    ap (λ (b : Bool). faces_in (length a.faces.now) box
-    (heal_faces b a.left a.right (nat_abs a.face) (faces s))) c.if-makes.false
-    ∙ ap (λ (z : ℤ). faces_in (length a.faces.now) box (without_face (nat_abs z) (faces s)))
-    (sym (higher c.before.before))
+    let a = c.args in
+    let fs = faces_of a.faces.now a.count in
+    ap (λ (b : Bool). faces_in (length a.faces.now) box (heal_faces b a.left a.right (nat_abs a.face) fs)) c.if-makes.false
+    ∙ ap (λ (z : ℤ). faces_in (length a.faces.now) box (without_face (nat_abs z) fs)) (sym (higher c.before.before))
     ∙ (c.remove_face-else-makes.ensures box t).cells
 
 pub remove_face-requires : goal.remove_face-requires

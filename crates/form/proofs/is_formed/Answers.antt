@@ -1,5 +1,4 @@
 -- `form::is_formed` meets its contract: each part is asked once the parts before it hold. Assumes nothing.
-use borrow.Author.Rules.{rules}
 use mathlib.Core.Path.{◌≡◌, sym, ◌∙◌}
 use mathlib.Core.Bool.{true, false}
 use Prim.Native.Nat.{ℕ, ◌*◌}

@@ -1,22 +1,15 @@
 -- `form_ranges::edges_ranged` meets its contract: the edge rows from row i on are in range if and only if all are.
 -- Assumes nothing.
 use Prim.Native.Nat.{◌-◌, ◌≤◌}
-use mathlib.Core.Path.{◌≡◌, sym, ap, ◌∙◌}
+use mathlib.Core.Path.{◌≡◌}
 use mathlib.Core.Bool.{Bool}
 use mathlib.Core.List.{List}
-use native.Mathlib.Omega.{arith}
 use lib.IntN.{ℤ}
-use lib.ListN.{length}
-use mir.Syntax.{w64}
-use mir.Val.{to_z, of_z}
-use mir.Facts.{to_z-of_z}
-use borrow.Author.Tests.{not-true, not-false}
 use Rattle.lists.specs.Scans.{all_of}
 use Rattle.lists.specs.Tables.{table}
 use Rattle.tables.specs.Tables.{row_at, rows}
-use Rattle.map.specs.Limits.{most_points, is_record, limit_of}
+use Rattle.map.specs.Limits.{most_points, limit_of}
 use Rattle.map.specs.Form.{edge_ranges_to}
-use Rattle.tables.proofs.Scans.{row_part, row_length, rows_start, rows_hit, rows_miss, rows_end}
 use Rattle.form_ranges.proofs.edges_ranged.Given as goal
 
 -- the test of a row, under the record

@@ -1,13 +1,9 @@
 -- `form_ranges::faces_ranged` meets its contract: the face rows from row i on are in range if and only if all are.
 -- Assumes nothing.
-use Prim.Native.Nat.{◌-◌, ◌≤◌}
-use mathlib.Core.Path.{◌≡◌, sym, ◌∙◌}
+use mathlib.Core.Path.{sym, ◌∙◌}
 use native.Mathlib.Omega.{arith}
-use borrow.Author.Tests.{not-true, not-false}
-use Rattle.lists.specs.Scans.{all_of}
-use Rattle.lists.specs.Tables.{table}
 use Rattle.lists.proofs.Scans.{all_hit, all_miss}
-use Rattle.tables.specs.Tables.{row_at, rows}
+use Rattle.tables.specs.Tables.{row_at}
 use Rattle.map.specs.Form.{face_ranges}
 use Rattle.tables.proofs.Scans.{rows_start, rows_end}
 use Rattle.form_ranges.proofs.Columns.{face_tested}

@@ -1,13 +1,8 @@
 -- `form_ranges::nodes_ranged` meets its contract: the node rows from row i on are in range if and only if all are.
 -- Assumes nothing.
-use Prim.Native.Nat.{◌-◌, ◌≤◌}
-use mathlib.Core.Path.{◌≡◌, sym, ap, ◌∙◌}
+use mathlib.Core.Path.{sym, ap, ◌∙◌}
 use native.Mathlib.Omega.{arith}
 use lib.ListN.{length}
-use borrow.Author.Tests.{not-true, not-false}
-use Rattle.lists.specs.Scans.{all_of}
-use Rattle.lists.specs.Tables.{table}
-use Rattle.tables.specs.Tables.{row_at, rows}
 use Rattle.map.specs.Form.{node_ranges}
 use Rattle.tables.proofs.Scans.{row_part, row_length, rows_start, rows_hit, rows_miss, rows_end}
 use Rattle.form_ranges.proofs.nodes_ranged.Goals as goal

@@ -25,8 +25,8 @@ use Rattle.form_rectangles.proofs.rows_fit.Reads as reads
 use Rattle.form_rectangles.proofs.rows_fit.Given as goal
 
 abbrev pub invariant-loop-k : goal.invariant-loop-k
-invariant-loop-k l = (l.k ≤ l.n) × (all_of (row_fits l.faces l.least l.greatest) (table (λ j. j) l.k (l.n - l.k))
-    ≡ all_of (row_fits l.faces l.least l.greatest) (table (λ j. j) 0 l.n))
+invariant-loop-k l = (l.k ≤ l.n) × (all_of (row_fits l.faces l.boxes) (table (λ j. j) l.k (l.n - l.k))
+    ≡ all_of (row_fits l.faces l.boxes) (table (λ j. j) 0 l.n))
 
 abbrev pub decreases-loop-k : goal.decreases-loop-k
 decreases-loop-k l = l.n - l.k

@@ -11,23 +11,18 @@ use Rattle.form_rectangles.proofs.settled.Goals as goal
 
 pub returns-then-faces-k : goal.returns-then-faces-k
 returns-then-faces-k c =
-    let d = c in
-    let s = d in
-    let l = s.args.faces.now in
-    let k = s.args.k in
-    let box = box_in s.args.least.now s.args.greatest.now k in
+    let l = c.args.faces.now in
+    let k = c.args.k in
+    let box = box_in c.args.boxes.now k in
     sym (ap (λ (b : Bool). cond b (box_of []) box)
-    (ap (λ (b : Bool). b || ltb box.right box.left) (sym (face_tested l k (sfits_of d.t9-1.given)))
+    (ap (λ (b : Bool). b || ltb box.right box.left) (sym (face_tested l k (sfits_of c.t11-1.given)))
     ∙ c.if-faces-k.true))
 
 pub returns : goal.returns
 returns c =
-    let g = c in
-    let d = g in
-    let s = d in
-    let l = s.args.faces.now in
-    let k = s.args.k in
-    let box = box_in s.args.least.now s.args.greatest.now k in
+    let l = c.args.faces.now in
+    let k = c.args.k in
+    let box = box_in c.args.boxes.now k in
     sym (ap (λ (b : Bool). cond b (box_of []) box)
-    (ap (λ (b : Bool). b || ltb box.right box.left) (sym (face_tested l k (sfits_of d.t9-1.given)))
-    ∙ g.if-faces-k.false))
+    (ap (λ (b : Bool). b || ltb box.right box.left) (sym (face_tested l k (sfits_of c.t11-1.given)))
+    ∙ c.if-faces-k.false))

@@ -1,35 +1,25 @@
 -- `form_rectangles::take_curve` meets its contract. Assumes nothing.
 use borrow.Author.Rules.{rules}
 use mathlib.Core.Path.{ap, ◌∙◌}
+use native.Mathlib.Omega.{arith}
+use lib.ListN.{length-set}
 use Rattle.bounding_boxes.specs.Extents.{extent_of}
 use Rattle.form_rectangles.specs.Merged.{box_in}
-use Rattle.form_rectangles.proofs.Pairs.{taken_once, taken_twice}
+use Rattle.form_rectangles.proofs.Boxes.{taken, taken_once, taken_twice}
 use Rattle.form_rectangles.proofs.take_curve.Goals as goal
 
 pub returns-then-a-b : goal.returns-then-a-b
 returns-then-a-b c =
-    let t = c in
-    let q = t in
-    let o = q in
-    let x = o in
-    let s = x in
-    let a = s.args in
-    let is = x.extent_of-e.ensures ∙ ap extent_of x.curve_of.ensures.1 in (
-      t.take_in-then-a-b.ensures.0,
-      t.take_in-then-a-b.ensures.1,
-      (λ j. taken_twice j a.a a.b (box_in a.least.now a.greatest.now j) (o.take_in.ensures.2 j) is
-          q.if-a-b.true (t.take_in-then-a-b.ensures.2 j)),
-    )
+    let a = c.args in
+    let is = c.extent_of-e.ensures ∙ ap extent_of c.curve_of.ensures.1 in
+    let long = length-set a.boxes.now a.a c.united.result in
+    λ j. taken_twice j a.a a.b (box_in a.boxes.now j)
+    (taken a.boxes.now a.a _ (omega (arith, c.told-boxes, c.requires.1)) c.united.ensures j) is c.if-a-b.true
+    (taken _ a.b _ (omega (arith, c.told-boxes, long, c.requires.2)) c.united-then-a-b.ensures j)
 
 pub returns-else-a-b : goal.returns-else-a-b
 returns-else-a-b c =
-    let o = c in
-    let x = o in
-    let s = x in
-    let a = s.args in
-    let is = x.extent_of-e.ensures ∙ ap extent_of x.curve_of.ensures.1 in (
-      o.take_in.ensures.0,
-      o.take_in.ensures.1,
-      (λ j. taken_once j a.a a.b (box_in a.least.now a.greatest.now j) (o.take_in.ensures.2 j) is
-          c.if-a-b.false),
-    )
+    let a = c.args in
+    let is = c.extent_of-e.ensures ∙ ap extent_of c.curve_of.ensures.1 in
+    λ j. taken_once j a.a a.b (box_in a.boxes.now j)
+    (taken a.boxes.now a.a _ (omega (arith, c.told-boxes, c.requires.1)) c.united.ensures j) is c.if-a-b.false

@@ -19,9 +19,9 @@ use Rattle.form_rectangles.proofs.take_edges.Given as goal
 
 abbrev pub invariant-loop-i : goal.invariant-loop-i
 invariant-loop-i l =
-    (l.i ≤ l.count) × (length l.least ≡ 2000) × (length l.greatest ≡ 2000)
+    (l.i ≤ l.count)
     × ((faces : List ℤ) (n : ℕ) → FaceRows faces n → n ≤ 1000 → RowsNamed face_width faces n l.edges 5 l.bears (l.count * 2)
-    → (k : ℕ) → k < n → Rest l.edges l.count (face_at faces k) l.i (box_in l.least l.greatest k))
+    → (k : ℕ) → k < n → Rest l.edges l.count (face_at faces k) l.i (box_in l.boxes k))
 
 abbrev pub decreases-loop-i : goal.decreases-loop-i
 decreases-loop-i l = l.count - l.i

@@ -1,6 +1,5 @@
 -- `form_references::curve_fits` meets its contract: the rows that are written down have the points of the nodes.
 -- Assumes nothing.
-use borrow.Author.Rules.{rules}
 use mathlib.Core.Bool.{Bool, ◌&&◌}
 use mathlib.Core.Path.{◌≡◌, ap, ap₂, ◌∙◌}
 use mathlib.Core.List.{List}

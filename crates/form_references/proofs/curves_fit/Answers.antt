@@ -1,15 +1,14 @@
 -- `form_references::curves_fit` meets its contract: the curves from row i on fit if and only if all do. Assumes
 -- nothing.
-use Prim.Native.Nat.{ℕ, ◌-◌, ◌≤◌}
-use mathlib.Core.Path.{◌≡◌, sym, ap, ◌∙◌}
+use Prim.Native.Nat.{ℕ}
+use mathlib.Core.Path.{sym, ap, ◌∙◌}
 use native.Mathlib.Nat.{sub-zero}
 use native.Mathlib.Omega.{arith}
-use borrow.Author.Tests.{not-true, not-false}
 use Rattle.lists.specs.Scans.{all_of}
 use Rattle.lists.specs.Tables.{table}
 use Rattle.lists.proofs.Scans.{all_hit, all_miss, all_end}
 use Rattle.map.specs.Form.{curve_fits}
-use Rattle.map_rows.specs.Rows.{edges_of, edge_at, node_map}
+use Rattle.map_rows.specs.Rows.{edge_at, node_map}
 use Rattle.map_rows.proofs.Rows.{edges_table, edge-row_of}
 use Rattle.form_references.proofs.curves_fit.Goals as goal
 

@@ -1,27 +1,24 @@
 -- `form_references::exists` meets its contract: a row is found where its number stands in the column. Assumes nothing.
-use borrow.Author.Rules.{rules}
-use mathlib.Core.Path.{sym, ap, ◌∙◌}
+use Rattle.std.specs.Prelude.{Option, Some, None, is_some}
+use mathlib.Core.Path.{◌≡◌, sym, ap, ◌∙◌}
+use mathlib.Core.List.{List}
+use Prim.Native.Nat.{ℕ}
 use lib.IntN.{ℤ}
-use mir.Syntax.{w64}
-use mir.Val.{to_z, of_z}
 use mir.Facts.{to_z-of_z}
 use Rattle.lists.specs.Scans.{any_of}
+use Rattle.lists.specs.Tables.{place}
 use Rattle.tables.specs.Tables.{same_z, column}
+use Rattle.form_references.specs.Sides.{has_row}
 use Rattle.form_references.proofs.Names.{column_at, column_missing}
 use Rattle.form_references.proofs.exists.Goals as goal
 
-pub returns-in-At : goal.returns-in-At
-returns-in-At c =
-    let s = c in
-    let a = s.args in
-    sym (column_at a.w a.t.now a.count (to_z w64 (of_z w64 a.number)) _
-    (sym c.find_indexed-found.ensures ∙ c.in-At.is))
-    ∙ ap (λ (z : ℤ). any_of (same_z z) (column a.w a.t.now a.count)) (to_z-of_z s.ranges.number)
+found : (w : ℕ) (t : List ℤ) (n : ℕ) (z : ℤ) (o : Option ℕ) → place (same_z z) 0 (column w t n) ≡ o → is_some o
+    ≡ has_row w t n z
+found w t n z (Some i) e = sym (column_at w t n z i e)
+found w t n z None e = sym (column_missing w t n z e)
 
-pub returns-in-Missing : goal.returns-in-Missing
-returns-in-Missing c =
-    let s = c in
-    let a = s.args in
-    sym (column_missing a.w a.t.now a.count (to_z w64 (of_z w64 a.number))
-    (sym c.find_indexed-found.ensures ∙ c.in-Missing.is))
-    ∙ ap (λ (z : ℤ). any_of (same_z z) (column a.w a.t.now a.count)) (to_z-of_z s.ranges.number)
+pub returns : goal.returns
+returns c =
+    let a = c.args in
+    c.is_some.ensures ∙ found a.w a.t.now a.count _ _ (sym c.find_indexed.ensures)
+    ∙ ap (λ (z : ℤ). any_of (same_z z) (column a.w a.t.now a.count)) (to_z-of_z c.ranges.number)

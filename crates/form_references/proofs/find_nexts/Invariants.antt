@@ -1,20 +1,11 @@
 -- `form_references::find_nexts` meets its contract, as `find_rows` does. Assumes nothing.
-use borrow.Author.Rules.{rules}
-use mathlib.Core.Path.{◌≡◌, refl, sym, ap, ◌∙◌}
-use mathlib.Core.Bool.{false, false≢true}
-use Prim.Native.Nat.{ℕ, ◌*◌, ◌-◌, ◌≤◌}
-use native.Mathlib.Nat.{sub-zero}
-use native.Mathlib.Omega.{arith}
+use mathlib.Core.Path.{◌≡◌}
+use Prim.Native.Nat.{◌*◌, ◌-◌, ◌≤◌}
 use lib.ListN.{length}
-use borrow.Author.Tests.{not-true, not-false}
 use Rattle.lists.specs.Scans.{all_of}
 use Rattle.lists.specs.Tables.{table}
-use Rattle.lists.proofs.Scans.{all_hit, all_miss, all_end}
 use Rattle.darts.specs.Positions.{NextsNamed}
 use Rattle.form_references.specs.Sides.{has_link, both_sides, all_sides}
-use Rattle.form_references.proofs.find_nexts.Lts as lts
-use Rattle.form_references.proofs.find_nexts.Tie as tie
-use Rattle.form_references.proofs.find_nexts.Reads as reads
 use Rattle.form_references.proofs.find_nexts.Given as goal
 
 abbrev pub invariant-loop-i : goal.invariant-loop-i

@@ -1,7 +1,6 @@
 -- `form_references::names_exist` meets its contract: four passes tell, and leave the rows that are named. Assumes
 -- nothing.
 use borrow.Author.Rules.{rules}
-use borrow.Author.Tests.{not-true, not-false}
 use mathlib.Core.Path.{◌≡◌, sym, ◌∙◌}
 use mathlib.Core.Bool.{true, false≢true}
 use native.Mathlib.Omega.{arith}

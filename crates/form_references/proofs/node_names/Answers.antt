@@ -1,5 +1,5 @@
 -- `form_references::node_names` meets its contract: a negative number is no face. Assumes nothing.
-use borrow.Author.Rules.{rules, sfits_of}
+use borrow.Author.Rules.{sfits_of}
 use mathlib.Core.Path.{◌≡◌, sym, ap, subst, ◌∙◌}
 use mathlib.Core.Bool.{true, false}
 use lib.IntN.{ℤ, pos, nat_abs}
@@ -22,14 +22,14 @@ returns-then-z-lt0 c =
     let z = get_or s.args.row.now 3 (pos 0) in
     let t : lt_z z (pos 0) ≡ true = subst (λ (x : ℤ). lt_z x (pos 0) ≡ true)
     (to_z-of_z {w = w64} {z = z} (sfits_of c.z-1.given)) c.if-z-lt0.true in
-    no_face_lem (face_map s.args.faces.now s.args.n) z t
+    c.if-z-lt0.true ∙ no_face_lem (face_map s.args.faces.now s.args.n) z t
 
 pub exists-requires : goal.exists-requires
 exists-requires c = let s = c in (face_rows_rising s.requires.1, s.requires.2)
 
-pub returns : goal.returns
+pub returns-else-z-lt0 : goal.returns-else-z-lt0
 unfolding node_of
-returns c =
+returns-else-z-lt0 c =
     let s = c in
     let a = s.args in
     let z = get_or a.row.now 3 (pos 0) in

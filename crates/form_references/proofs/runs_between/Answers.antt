@@ -1,5 +1,4 @@
 -- `form_references::runs_between` meets its contract. Assumes nothing.
-use borrow.Author.Rules.{rules}
 use mathlib.Core.Bool.{◌&&◌}
 use mathlib.Core.Path.{◌≡◌, refl, ap, ap₂, ◌∙◌}
 use Prim.Native.Nat.{◌+◌, ◌-◌, ◌/◌}
@@ -7,6 +6,7 @@ use native.Mathlib.Omega.{arith}
 use lib.ListN.{length}
 use Rattle.plane.specs.declared.Point.{Point}
 use Rattle.plane.specs.Points.{same_point}
+use Rattle.plane.proofs.Laws.{point_eq}
 use Rattle.curves.proofs.Runs.{two-points}
 use Rattle.form_references.proofs.Names.{curve_first, curve_last}
 use Rattle.form_references.proofs.runs_between.Goals as goal
@@ -29,8 +29,8 @@ returns c =
     let e : s.args.k - 1 + 1 ≡ length s.args.c.now / 2 = omega (arith, s.requires.1, two-points run) in
     ap₂ ◌&&◌
     (ap₂ ◌&&◌
-    (y.same_point-first.ensures ∙ ap (λ (p : Point). same_point p s.args.u)
+    (y.eq-first.ensures ∙ point_eq _ _ ∙ ap (λ (p : Point). same_point p s.args.u)
     (y.point_at.ensures.0 ∙ curve_first run refl))
-    (z.same_point-last.ensures ∙ ap (λ (p : Point). same_point p s.args.v)
+    (z.eq-last.ensures ∙ point_eq _ _ ∙ ap (λ (p : Point). same_point p s.args.v)
     (z.point_at-2.ensures.0 ∙ curve_last run refl (s.args.k - 1) e)))
     c.neighbours_differ.ensures

@@ -2,15 +2,8 @@
 -- Assumes nothing.
 use mathlib.Core.Path.{◌≡◌}
 use Prim.Native.Nat.{◌+◌, ◌-◌, ◌≤◌}
-use native.Mathlib.Nat.{zero-add, sub-zero}
-use native.Mathlib.Omega.{arith}
-use lib.Dec.{eqb}
-use lib.ListN.{get_or}
-use Rattle.lists.specs.Tests.{same}
 use Rattle.lists.specs.Scans.{count_of}
 use Rattle.lists.specs.Tables.{table}
-use Rattle.lists.proofs.Scans.{count_step, count_end}
-use Rattle.lists.proofs.Counts.{byte_bit, byte_most}
 use Rattle.map_piece_faces.specs.InFaces.{is_root}
 use Rattle.map_piece_faces.proofs.count_roots.Given as goal
 

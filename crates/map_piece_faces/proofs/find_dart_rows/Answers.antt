@@ -1,5 +1,4 @@
 -- `map_piece_faces::find_dart_rows` meets its contract: in tables in form each search finds its row. Assumes nothing.
-use borrow.Author.Rules.{rules}
 use mathlib.Core.Path.{refl, ◌∙◌}
 use native.Mathlib.Omega.{arith}
 use lib.Dec.{lit≤}

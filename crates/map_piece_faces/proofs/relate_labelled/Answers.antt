@@ -1,6 +1,5 @@
 -- `map_piece_faces::relate_labelled` meets its contract: the matrix gains what directed edges and nodes relate. Assumes
 -- nothing.
-use borrow.Author.Rules.{rules}
 use mathlib.Core.Bool.{false}
 use Rattle.map_piece_faces.proofs.Passed.{relates_none}
 use Rattle.map_piece_faces.proofs.Asked.{asked, dart_rows}

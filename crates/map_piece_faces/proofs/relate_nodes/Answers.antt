@@ -1,12 +1,9 @@
 -- `map_piece_faces::relate_nodes` meets its contract: the matrix has what the nodes that are passed relate.
 -- Assumes nothing.
 use mathlib.Core.Path.{◌≡◌, refl, sym}
-use Prim.Native.Nat.{◌-◌, ◌≤◌}
 use native.Mathlib.Omega.{arith}
-use lib.ListN.{length}
-use Rattle.piece_faces.specs.Bits.{cells}
 use Rattle.map_piece_faces.specs.InFaces.{node_relates}
-use Rattle.map_piece_faces.proofs.Passed.{Passed, passed_none, passed_more}
+use Rattle.map_piece_faces.proofs.Passed.{passed_none, passed_more}
 use Rattle.map_piece_faces.proofs.relate_nodes.Goals as goal
 
 pub loop-i-init : goal.loop-i-init

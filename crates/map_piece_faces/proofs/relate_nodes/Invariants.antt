@@ -1,12 +1,11 @@
 -- `map_piece_faces::relate_nodes` meets its contract: the matrix has what the nodes that are passed relate.
 -- Assumes nothing.
-use mathlib.Core.Path.{◌≡◌, refl, sym}
+use mathlib.Core.Path.{◌≡◌}
 use Prim.Native.Nat.{◌-◌, ◌≤◌}
-use native.Mathlib.Omega.{arith}
 use lib.ListN.{length}
 use Rattle.piece_faces.specs.Bits.{cells}
 use Rattle.map_piece_faces.specs.InFaces.{node_relates}
-use Rattle.map_piece_faces.proofs.Passed.{Passed, passed_none, passed_more}
+use Rattle.map_piece_faces.proofs.Passed.{Passed}
 use Rattle.map_piece_faces.proofs.relate_nodes.Given as goal
 
 abbrev pub invariant-loop-i : goal.invariant-loop-i

@@ -1,5 +1,5 @@
 -- `map_rows::is_isolated` meets its contract: only -1 is below 0 in a row in range. Assumes nothing.
-use borrow.Author.Rules.{rules, sfits_of}
+use borrow.Author.Rules.{sfits_of}
 use mathlib.Core.Path.{◌≡◌, ap, ◌∙◌, subst}
 use mathlib.Core.Bool.{true, not, ◌&&◌}
 use Prim.Native.Nat.{◌+◌, ◌*◌}
@@ -28,5 +28,5 @@ returns c =
     let least = subst (λ (k : ℤ). le_z (negsuc 0) k ≡ true) (row_cell node_width l i 3 (lit< tt))
     (and_right (non_neg (cell r 0) && coordinate (cell r 1) && coordinate (cell r 2)) (le_z (negsuc 0) (cell r 3))
     row.ranges) in
-    ap not (word_test {a = z} {b = negsuc 0} (sfits_of c.z-1.given) (sfits_of (lit< tt))) ∙ isolated_is z least
+    ap not (word_test {a = z} {b = negsuc 0} (sfits_of c.result-1.given) (sfits_of (lit< tt))) ∙ isolated_is z least
     ∙ ap is_some (node_cells_lem l i row.ranges).face

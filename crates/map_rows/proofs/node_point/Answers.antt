@@ -1,5 +1,4 @@
 -- `map_rows::node_point` meets its contract: the numbers of a node row in range are coordinates. Assumes nothing.
-use borrow.Author.Rules.{rules}
 use Prim.Native.Nat.{◌+◌, ◌*◌}
 use lib.IntN.{pos}
 use lib.ListN.{get_or}

@@ -1,30 +1,17 @@
 -- `map_rows::write_edge` meets its contract: the two writes are one. Assumes nothing.
 use borrow.Author.Rules.{rules}
-use mathlib.Core.Path.{◌≡◌, refl, sym, ◌∙◌}
+use mathlib.Core.Path.{◌≡◌, refl, ◌∙◌}
 use native.Mathlib.Omega.{arith}
 use Prim.Native.Nat.{◌+◌, ◌*◌}
 use mathlib.Core.List.{[], ◌∷◌}
 use mir.Syntax.{w64}
 use mir.Val.{to_z, SFits}
 use mir.Facts.{to_z-of_z, to_z_pos}
-use lib.IntN.{ℤ, pos}
+use lib.IntN.{pos}
 use lib.ListN.{length}
 use lib.Seq.{paste}
 use Rattle.tables.proofs.Cells.{paste-paste}
 use Rattle.map_rows.proofs.write_edge.Goals as goal
-
-pub slice_bounds-write-end-2 : goal.slice_bounds-write-end-2
-slice_bounds-write-end-2 c =
-    let s = c in
-    let e : length s.args.l.cells ≡ 24 =
-    s.well_formed.1.1.1.0.1.1.1.0.1.0.1 in sym e
-
-pub write-requires-2 : goal.write-requires-2
-write-requires-2 c =
-    let s = c in
-    let e : length s.args.l.cells ≡ 24 =
-    s.well_formed.1.1.1.0.1.1.1.0.1.0.1 in
-    omega (arith, e, c.write.auto.t)
 
 pub returns : goal.returns
 returns c =

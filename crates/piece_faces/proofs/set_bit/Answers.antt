@@ -3,7 +3,6 @@ use Prim.Native.Nat.{◌%◌}
 use native.Mathlib.Omega.{arith}
 use Rattle.piece_faces.proofs.Words.{shifted}
 use Rattle.piece_faces.proofs.Matrix.{bit-set}
-use borrow.Author.Rules.{rules}
 use Rattle.piece_faces.proofs.set_bit.Goals as goal
 
 pub returns : goal.returns

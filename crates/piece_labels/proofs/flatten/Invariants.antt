@@ -1,11 +1,8 @@
 -- `piece_labels::flatten` meets its contract: the rows that are passed have the label of their root. Assumes nothing.
-use mathlib.Core.Path.{sym, ◌∙◌}
-use Prim.Native.Nat.{◌-◌, ◌≤◌, ◌<◌}
-use native.Mathlib.Omega.{arith}
-use lib.ListN.{length, get_or}
+use Prim.Native.Nat.{◌-◌, ◌≤◌}
 use Rattle.map.specs.Darts.{arcs}
 use Rattle.map_rows.specs.Rows.{edge_map}
-use Rattle.piece_labels.proofs.Flats.{Flat, flat_start, flat_end, flat_more, leads_in}
+use Rattle.piece_labels.proofs.Flats.{Flat}
 use Rattle.piece_labels.proofs.flatten.Given as goal
 
 abbrev pub invariant-loop-i : goal.invariant-loop-i

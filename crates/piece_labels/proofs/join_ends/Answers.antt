@@ -1,6 +1,6 @@
 -- `piece_labels::join_ends` meets its contract: the rows of the edge's nodes are found, and the higher root leads to
 -- the lower. Assumes nothing.
-use borrow.Author.Rules.{rules, sfits_of}
+use borrow.Author.Rules.{sfits_of}
 use mathlib.Core.Path.{◌≡◌, sym, ap, ◌∙◌}
 use Prim.Native.Nat.{◌+◌, ◌*◌, ◌-◌, ◌≤◌}
 use native.Mathlib.Omega.{arith}
@@ -9,6 +9,8 @@ use lib.ListN.{get_or, set, drop}
 use mir.Syntax.{w64}
 use mir.Val.{to_z, of_z}
 use mir.Facts.{to_z-of_z}
+use mathlib.Core.Logic.{inl, inr}
+use Rattle.tables.proofs.Order.{lt_or_ge}
 use Rattle.map.specs.Darts.{arcs}
 use Rattle.map.proofs.Linked.{arc_of}
 use Rattle.map_rows.specs.Rows.{edge_at, edge_map}
@@ -109,21 +111,32 @@ both c =
     (ap nat_abs (sym (end-sent c.before.before) ∙ v.ensures.1))
     (first-root r) (second-root c))
 
--- they are rows
-pub bounds-labels-b : goal.bounds-labels-b
-bounds-labels-b c =
-    let b = c.before.before in
-    let s = b in
-    omega (arith, (second-root b).below, b.row_of-2.ensures.0, s.requires.3.size)
+-- the higher is a row
+pub bounds-labels-max : goal.bounds-labels-max
+bounds-labels-max c =
+    let b = c.before.before.before in
+    let r = b.before.before.before in
+    omega (
+      arith,
+      (first-root r).below,
+      r.row_of.ensures.0,
+      (second-root b).below,
+      b.row_of-2.ensures.0,
+      c.requires.3.size,
+      c.max.ensures,
+    )
 
-pub bounds-labels-a : goal.bounds-labels-a
-bounds-labels-a c =
-    let r = c.before.before.before.before.before in
-    let s = r in
-    omega (arith, (first-root r).below, r.row_of.ensures.0, s.requires.3.size)
-
-pub returns-then-a-b : goal.returns-then-a-b
-returns-then-a-b c = (both c.before.before).0 (omega (arith, c.if-a-b.true))
-
-pub returns-else-a-b : goal.returns-else-a-b
-returns-else-a-b c = (both c.before.before).1 c.if-a-b.false
+pub returns : goal.returns
+returns c =
+    let x = c.root_of-a.result in
+    let y = c.root_of-b.result in
+    elim (lt_or_ge x y) [
+      | inl h ↦
+          let high : c.max.result ≡ y = omega (arith, c.max.ensures) in
+          let low : c.min.result ≡ x = omega (arith, c.min.ensures) in
+          rw (high, low) ((both c.before.before.before).0 (omega arith))
+      | inr h ↦
+          let high : c.max.result ≡ x = omega (arith, c.max.ensures) in
+          let low : c.min.result ≡ y = omega (arith, c.min.ensures) in
+          rw (high, low) ((both c.before.before.before).1 h)
+    ]

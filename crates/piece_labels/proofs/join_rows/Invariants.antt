@@ -1,12 +1,9 @@
 -- `piece_labels::join_rows` meets its contract: the last edges are joined. Assumes nothing.
-use mathlib.Core.Path.{sym, ◌∙◌}
 use Prim.Native.Nat.{◌-◌, ◌≤◌}
-use native.Mathlib.Omega.{arith}
 use lib.ListN.{drop}
 use Rattle.map.specs.Darts.{arcs}
 use Rattle.map_rows.specs.Rows.{edge_map}
 use Rattle.piece_labels.specs.Labels.{Leading}
-use Rattle.piece_labels.proofs.Joins.{no_edges, all_edges}
 use Rattle.piece_labels.proofs.join_rows.Given as goal
 
 abbrev pub invariant-loop-k : goal.invariant-loop-k

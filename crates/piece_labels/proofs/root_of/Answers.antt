@@ -1,9 +1,7 @@
 -- `piece_labels::root_of` meets its contract: where labels lead from row r is where they lead from row j. Assumes
 -- nothing.
-use mathlib.Core.Path.{◌≡◌, refl, sym, ◌∙◌}
-use Prim.Native.Nat.{◌≤◌}
+use mathlib.Core.Path.{sym, ◌∙◌}
 use native.Mathlib.Omega.{arith}
-use Rattle.piece_labels.specs.Labels.{root_from}
 use Rattle.piece_labels.proofs.Roots.{root_end, root_turn}
 use Rattle.piece_labels.proofs.root_of.Goals as goal
 
@@ -17,6 +15,3 @@ pub returns : goal.returns
 returns c =
     let l = c in
     sym (root_end l.args.labels.now l.loop-r.r l.loop-r.r c.loop-r-test.false) ∙ l.loop-r.invariant.1
-
-pub loop-r-init : goal.loop-r-init
-loop-r-init c = (omega arith, refl)

@@ -1,10 +1,8 @@
 -- `piece_labels::root_of` meets its contract: where labels lead from row r is where they lead from row j. Assumes
 -- nothing.
-use mathlib.Core.Path.{◌≡◌, refl, sym, ◌∙◌}
+use mathlib.Core.Path.{◌≡◌}
 use Prim.Native.Nat.{◌≤◌}
-use native.Mathlib.Omega.{arith}
 use Rattle.piece_labels.specs.Labels.{root_from}
-use Rattle.piece_labels.proofs.Roots.{root_end, root_turn}
 use Rattle.piece_labels.proofs.root_of.Given as goal
 
 abbrev pub invariant-loop-r : goal.invariant-loop-r

@@ -1,40 +1,21 @@
 -- `plane::contact_of` meets its contract. Assumes nothing.
-use borrow.Author.Rules.{rules}
-use borrow.Author.Tests.{not-true, not-false}
-use mathlib.Core.Path.{refl, sym, ◌∙◌}
+use native.Mathlib.Omega.{arith}
+use Rattle.std.proofs.lemmas.Grind.{common_steps}
 use Rattle.plane.specs.Segments.{contact}
 use Rattle.plane.proofs.contact_of.Goals as goal
 
 pub returns-then-not-segments_meet : goal.returns-then-not-segments_meet
 unfolding contact
-returns-then-not-segments_meet c = rw (sym c.segments_meet.ensures ∙ c.if-not-segments_meet.true)
+returns-then-not-segments_meet c = grind (arith, common_steps)
 
 pub returns-then-segments_stretch : goal.returns-then-segments_stretch
 unfolding contact
-returns-then-segments_stretch c = rw (
-  sym c.segments_meet.ensures
-      ∙ c.if-not-segments_meet.false,
-  sym c.segments_stretch.ensures ∙ c.if-segments_stretch.true,
-)
+returns-then-segments_stretch c = grind (arith, common_steps)
 
 pub returns-then-end_touches : goal.returns-then-end_touches
 unfolding contact
-returns-then-end_touches c =
-    rw (
-      sym c.segments_meet.ensures
-          ∙ c.if-not-segments_meet.false,
-      sym c.segments_stretch.ensures ∙ c.if-segments_stretch.false,
-      sym c.end_touches.ensures ∙ c.if-end_touches.true,
-    )
-    refl
+returns-then-end_touches c = grind (arith, common_steps)
 
-pub returns : goal.returns
+pub returns-else-end_touches : goal.returns-else-end_touches
 unfolding contact
-returns c =
-    rw (
-      sym c.segments_meet.ensures
-          ∙ c.if-not-segments_meet.false,
-      sym c.segments_stretch.ensures ∙ c.if-segments_stretch.false,
-      sym c.end_touches.ensures ∙ c.if-end_touches.false,
-    )
-    refl
+returns-else-end_touches c = grind (arith, common_steps)

@@ -1,5 +1,4 @@
 -- `plane::ranges_overlap_more` meets its contract. Assumes nothing.
-use borrow.Author.Rules.{rules}
 use Rattle.plane.specs.Segments.{overlap_more}
 use Rattle.plane.proofs.ranges_overlap_more.Goals as goal
 

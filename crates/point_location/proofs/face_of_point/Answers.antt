@@ -2,25 +2,23 @@
 -- from none. Assumes nothing.
 use mathlib.Core.Path.{◌≡◌, sym, ap, ◌∙◌}
 use mathlib.Core.List.{List}
-use mathlib.Core.Option.{Option, none, some}
+use Rattle.std.specs.Prelude.{Option, Some, None, IfSome}
 use Prim.Native.Nat.{ℕ, ◌-◌, ◌≤◌}
 use native.Mathlib.Nat.{sub-zero}
 use native.Mathlib.Omega.{arith}
-use lib.Dec.{lit<, lit≤}
 use lib.IntN.{ℤ, pos}
 use mir.Syntax.{w64}
 use mir.Facts.{to_z_pos}
 use borrow.Author.Rules.{sfits_of}
-use borrow.Author.Tests.{not-true, not-false}
 use Rattle.lists.specs.Scans.{fold}
 use Rattle.lists.specs.Tables.{table}
 use Rattle.lists.proofs.Scans.{fold_step, fold_end}
 use Rattle.plane.specs.declared.Point.{Point}
-use Rattle.map.specs.Faces.{Floor, face_of_point}
+use Rattle.map.specs.Faces.{face_of_point}
 use Rattle.map_rows.specs.Rows.{edge_at, edge_map}
 use Rattle.map_rows.proofs.Rows.{edges_table, edge-row_of}
 use Rattle.point_location.specs.declared.Highest.{Highest}
-use Rattle.point_location.specs.Highest.{HighestFits, floor, highest_floor, rowed}
+use Rattle.point_location.specs.Highest.{HighestFits, highest_floor, rowed}
 use Rattle.point_location.proofs.Folds.{upper, face_fold}
 use Rattle.point_location.proofs.face_of_point.Goals as goal
 
@@ -28,9 +26,9 @@ pub loop-i-init : goal.loop-i-init
 loop-i-init c =
     let a = c.args in (
       omega arith,
-      record { from = record { x = lit≤ tt; y = lit≤ tt }; to = record { x = lit≤ tt; y = lit≤ tt }; upper = lit< tt },
+      tt,
       rw sub-zero (sym (face_fold (edge_map a.edges.now a.count) a.p
-          ∙ ap (λ r. upper (fold (rowed a.p) none r)) (edges_table a.edges.now a.count))),
+          ∙ ap (λ r. upper (fold (rowed a.p) None r)) (edges_table a.edges.now a.count))),
     )
 
 pub loop-i-preserved : goal.loop-i-preserved
@@ -45,31 +43,27 @@ loop-i-preserved c =
     )
 
 -- after the last row
-rest : (l : List ℤ) (n i : ℕ) (p : Point) (h : Highest) (v : Option Floor) → n ≤ i → highest_floor h ≡ v
+rest : (l : List ℤ) (n i : ℕ) (p : Point) {h : Option Highest} (v : Option Highest) → n ≤ i → h ≡ v
     → upper (fold (rowed p) (highest_floor h) (table (edge_at l) i (n - i))) ≡ face_of_point (edge_map l n) p
-    → upper v ≡ face_of_point (edge_map l n) p
-rest l n i p h v left e inv = sym (ap upper (fold_end (edge_at l) i n (rowed p) (highest_floor h) left ∙ e)) ∙ inv
+    → upper (highest_floor v) ≡ face_of_point (edge_map l n) p
+rest l n i p {h} v left e inv =
+    sym (ap upper (fold_end (edge_at l) i n (rowed p) (highest_floor h) left ∙ ap highest_floor e)) ∙ inv
 
-pub returns-then-not-best : goal.returns-then-not-best
-returns-then-not-best c =
-    let b = c in
-    ap pos (rest _ _ _ b.args.p b.loop-i.best none c.loop-i-test.false
-    (rw (not-true _ c.if-not-best.true)) b.loop-i.invariant.2)
+pub returns-in-None : goal.returns-in-None
+returns-in-None c = ap pos (rest _ _ _ c.args.p None c.loop-i-test.false c.in-None.is c.loop-i.invariant.2)
 
-pub returns : goal.returns
-returns c =
-    let b = c in
-    to_z_pos w64 b.loop-i.invariant.1.upper
-    ∙ ap pos (rest _ _ _ b.args.p b.loop-i.best (some (floor b.loop-i.best))
-    c.loop-i-test.false (rw (not-false _ c.if-not-best.false))
-    b.loop-i.invariant.2)
-
-pub floor_over-best-requires : goal.floor_over-best-requires
-floor_over-best-requires c = let b = c in (
-  b.loop-i.invariant.1,
-  b.requires.1,
-  edge-row_of b.requires.0 _ c.loop-i-test.true,
-)
+pub returns-in-Some : goal.returns-in-Some
+returns-in-Some c =
+    let h = c.in-Some.h in
+    let fits : IfSome (Some h) HighestFits = rw c.in-Some.is at c.loop-i.invariant.1 in
+    to_z_pos w64 fits.upper
+    ∙ ap pos (rest _ _ _ c.args.p (Some h) c.loop-i-test.false c.in-Some.is c.loop-i.invariant.2)
 
 pub overflow_cast-result : goal.overflow_cast-result
-overflow_cast-result c = sfits_of c.loop-i.invariant.1.upper
+overflow_cast-result c =
+    let fits : IfSome (Some c.in-Some.h) HighestFits = rw c.in-Some.is at c.loop-i.invariant.1 in
+    sfits_of fits.upper
+
+pub floor_over-best-requires : goal.floor_over-best-requires
+floor_over-best-requires c =
+    (c.loop-i.invariant.1, c.requires.1, edge-row_of c.requires.0 _ c.loop-i-test.true)

@@ -2,19 +2,19 @@
 -- segments from the first. Assumes nothing.
 use mathlib.Core.Path.{◌≡◌, sym, ap, ◌∙◌}
 use mathlib.Core.List.{List}
-use mathlib.Core.Option.{Option}
-use Prim.Native.Nat.{ℕ, ◌+◌, ◌-◌, ◌/◌, ◌≤◌, ◌<◌}
+use Rattle.std.specs.Prelude.{Option}
+use Prim.Native.Nat.{ℕ, ◌+◌, ◌-◌, ◌/◌, ◌<◌}
 use native.Mathlib.Omega.{arith}
 use lib.IntN.{ℤ}
 use lib.ListN.{length}
 use Rattle.lists.specs.Scans.{fold}
 use Rattle.plane.specs.declared.Point.{Point}
 use Rattle.plane.specs.Below.{Segment}
-use Rattle.curves.specs.Curves.{curve_of, segments, point_at}
+use Rattle.curves.specs.Curves.{point_at}
 use Rattle.curves.proofs.Runs.{two-points, curve_is}
 use Rattle.curves.proofs.Turns.{segments_from, segments_step, segments-end}
 use Rattle.map.specs.Faces.{Floor}
-use Rattle.point_location.specs.Highest.{HighestFits, highest_floor, passed}
+use Rattle.point_location.specs.Highest.{highest_floor, passed}
 use Rattle.point_location.proofs.floor_along.Goals as goal
 
 -- a turn
@@ -53,26 +53,3 @@ returns c =
 
 pub overflow_sub-n : goal.overflow_sub-n
 overflow_sub-n c = omega (arith, two-points c.requires.2, c.point_count-n.ensures)
-
-pub point_at-requires : goal.point_at-requires
-point_at-requires c = (c.requires.2, omega (arith, c.point_count-n.ensures))
-
-pub point_at-requires-in-loop-k : goal.point_at-requires-in-loop-k
-point_at-requires-in-loop-k c = (
-  c.requires.2,
-  omega (
-    arith,
-    two-points c.requires.2,
-    c.point_count-n.ensures,
-  ),
-)
-
-pub floor_with-best-requires : goal.floor_with-best-requires
-floor_with-best-requires c = let p = c.requires in (
-  c.loop-k.invariant.1,
-  p.1,
-  c.point_at.ensures.1,
-  c.point_at-in-loop-k.ensures.1,
-  p.3,
-  p.4,
-)

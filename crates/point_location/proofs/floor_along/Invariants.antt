@@ -1,25 +1,17 @@
 -- `point_location::floor_along` meets its contract: the segments from point k on, from the highest so far, are all
 -- segments from the first. Assumes nothing.
-use mathlib.Core.Path.{◌≡◌, sym, ap, ◌∙◌}
-use mathlib.Core.List.{List}
-use mathlib.Core.Option.{Option}
-use Prim.Native.Nat.{ℕ, ◌+◌, ◌-◌, ◌/◌, ◌≤◌, ◌<◌}
-use native.Mathlib.Omega.{arith}
-use lib.IntN.{ℤ}
-use lib.ListN.{length}
+use mathlib.Core.Path.{◌≡◌}
+use Rattle.std.specs.Prelude.{IfSome}
+use Prim.Native.Nat.{◌-◌, ◌≤◌}
 use Rattle.lists.specs.Scans.{fold}
-use Rattle.plane.specs.declared.Point.{Point}
-use Rattle.plane.specs.Below.{Segment}
-use Rattle.curves.specs.Curves.{curve_of, segments, point_at}
-use Rattle.curves.proofs.Runs.{two-points, curve_is}
-use Rattle.curves.proofs.Turns.{segments_from, segments_step, segments-end}
-use Rattle.map.specs.Faces.{Floor}
+use Rattle.curves.specs.Curves.{curve_of, segments}
+use Rattle.curves.proofs.Turns.{segments_from}
 use Rattle.point_location.specs.Highest.{HighestFits, highest_floor, passed}
 use Rattle.point_location.proofs.floor_along.Given as goal
 
 abbrev pub invariant-loop-k : goal.invariant-loop-k
 invariant-loop-k l =
-    (l.k ≤ l.n) × HighestFits l.best × (fold (passed l.p l.left l.right) (highest_floor l.best) (segments_from l.c l.k)
+    (l.k ≤ l.n) × IfSome l.best HighestFits × (fold (passed l.p l.left l.right) (highest_floor l.best) (segments_from l.c l.k)
     ≡ fold (passed l.p l.left l.right) (highest_floor l.initial.best) (segments (curve_of l.c)))
 
 abbrev pub decreases-loop-k : goal.decreases-loop-k

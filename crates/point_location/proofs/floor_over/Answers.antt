@@ -1,5 +1,4 @@
 -- `point_location::floor_over` meets its contract: curve and faces are those of the edge row. Assumes nothing.
-use borrow.Author.Rules.{rules}
 use mathlib.Core.Path.{ap, ◌∙◌}
 use native.Mathlib.Omega.{arith}
 use lib.IntN.{nat_abs}
@@ -27,10 +26,3 @@ returns c =
     let l = c.face_at-left.ensures.0 ∙ ap nat_abs cells.left in
     let r = c.face_at-right.ensures.0 ∙ ap nat_abs cells.right in
     (rw (← c.curve_of.ensures.1, ← l, ← r) c.floor_along.ensures.0, c.floor_along.ensures.1)
-
-pub curve_of-requires : goal.curve_of-requires
-curve_of-requires c = c.requires.2
-
-pub floor_along-requires : goal.floor_along-requires
-floor_along-requires c = let p = c.requires in
-    (p.0, p.1, c.curve_of.ensures.0, c.face_at-left.ensures.1, c.face_at-right.ensures.1)

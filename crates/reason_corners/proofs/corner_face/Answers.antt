@@ -21,19 +21,16 @@ use Rattle.reason_corners.proofs.corner_face.Reads as reads
 use Rattle.reason_corners.proofs.corner_face.Goals as goal
 
 -- places in the code, by their names in what is generated
-abbrev After-first_clockwise-found : Type 0
-After-first_clockwise-found = lts.After-first_clockwise tie.the-claims reads.Pre reads.Post
+abbrev After-first_clockwise : Type 0
+After-first_clockwise = lts.After-first_clockwise tie.the-claims reads.Pre reads.Post
 
-pub first_clockwise-found-requires : goal.first_clockwise-found-requires
-first_clockwise-found-requires c = let s = c in
+pub first_clockwise-requires : goal.first_clockwise-requires
+first_clockwise-requires c = let s = c in
     (s.requires.1, (λ h. absurd (omega arith)), (s.requires.2, s.requires.3))
 
-pub enum_known-found : goal.enum_known-found
-enum_known-found c = search rules
-
 -- what the search answers
-found : (c : After-first_clockwise-found)
-    → let a = c.args in c.first_clockwise-found.result
+found : (c : After-first_clockwise)
+    → let a = c.args in c.first_clockwise.result
     ≡ first_met (way_at a.edges.now) (way_to a.v.from a.v.to)
     (departures_but a.edges.now a.count (get_or a.nodes.now (a.i * 4) (pos 0)) (a.count * 2) (a.count * 2))
 found c =
@@ -43,33 +40,30 @@ found c =
     let v = way_to a.v.from a.v.to in
     let z = get_or a.nodes.now (a.i * 4) (pos 0) in
     let e : to_z w64 (of_z w64 z) ≡ z = sent c.first_clockwise-arg-2-1.given in
-    c.first_clockwise-found.ensures ∙ met_alike l n (to_z w64 (of_z w64 z)) (n * 2) (n * 2) v
+    c.first_clockwise.ensures ∙ met_alike l n (to_z w64 (of_z w64 z)) (n * 2) (n * 2) v
     ∙ ap (λ (x : ℤ). first_met (way_at l) v (departures_but l n x (n * 2) (n * 2))) e
 
 pub dart_cell-requires : goal.dart_cell-requires
 dart_cell-requires c =
     let f = c in
-    let q = f.in-At.p in
+    let q = f.in-Some.p in
     let s = f in
     let a = s.args in
     let b = met_below a.edges.now a.count (get_or a.nodes.now (a.i * 4) (pos 0)) (a.count * 2)
-    (a.count * 2) (way_to a.v.from a.v.to) q (sym (found c.before) ∙ f.in-At.is) in
+    (a.count * 2) (way_to a.v.from a.v.to) q (sym (found c.before) ∙ f.in-Some.is) in
     let h = half_below a.count q b in
     (omega (arith, s.requires.1.fits), omega arith)
 
-pub enum_told-1 : goal.enum_told-1
-enum_told-1 c = search rules
-
-pub returns-in-At : goal.returns-in-At
-returns-in-At c =
+pub returns-in-Some : goal.returns-in-Some
+returns-in-Some c =
     let f = c in
     let a = f.args in
     sent c.dart_cell.type_inv ∙ c.dart_cell.ensures
-    ∙ ap (corner_by a.nodes.now a.i a.edges.now) (sym f.in-At.is ∙ found c.before.before)
+    ∙ ap (corner_by a.nodes.now a.i a.edges.now) (sym f.in-Some.is ∙ found c.before.before)
 
-pub returns-in-Missing : goal.returns-in-Missing
-returns-in-Missing c =
+pub returns-in-None : goal.returns-in-None
+returns-in-None c =
     let f = c in
     let a = f.args in
     sent c.result-1.given ∙ ap (corner_by a.nodes.now a.i a.edges.now)
-    (sym f.in-Missing.is ∙ found c.before.before)
+    (sym f.in-None.is ∙ found c.before.before)

@@ -1,5 +1,7 @@
 -- `reason_corners::splits_face` meets its contract. Assumes nothing.
 use borrow.Author.Rules.{rules}
+use Rattle.std.specs.Prelude.{Option}
+use Rattle.std.specs.Option.{unwrap_or}
 use mathlib.Core.Path.{◌≡◌, refl, sym, ap, ap₂, ◌∙◌, subst}
 use mathlib.Core.Bool.{false}
 use Prim.Native.Nat.{ℕ, suc, ◌+◌, ◌*◌, ◌<◌}
@@ -13,21 +15,22 @@ use Rattle.map.specs.Edits.{drawn, splits_face}
 use Rattle.map_rows.specs.Rows.{node_at}
 use Rattle.map_rows.proofs.Rows.{node_cells_lem}
 use Rattle.reason_corners.specs.Drawing.{edges_numbered, start_corner, end_corner, Joined}
-use Rattle.reason_corners.proofs.Ends.{corner_below, end_below}
+use Rattle.reason_corners.proofs.Ends.{corner_or, corner_below, end_below}
 use Rattle.reason_corners.proofs.Drawn.{fresh-number, joined}
 use Rattle.reason_corners.proofs.splits_face.Goals as goal
 
 -- the corner at the start, which is among the positions
-module _ (c : goal.After-corner-start) where
+module _ (c : goal.After-unwrap_or-start) where
   at_start_lem : let a = c.args in
-      c.corner-start.result ≡ start_corner a.edges.now a.e a.c.now (pos (node_at a.nodes.now a.u).number)
+      c.unwrap_or-start.result ≡ start_corner a.edges.now a.e a.c.now (pos (node_at a.nodes.now a.u).number)
   at_start_lem =
-      let s = c in
-      let a = s.args in
-      c.corner-start.ensures ∙ ap (start_corner a.edges.now a.e a.c.now)
-      (sent c.from-1.given ∙ (node_cells_lem a.nodes.now a.u s.requires.0.ranges).number)
+      let a = c.args in
+      c.unwrap_or-start.ensures ∙ ap (λ (r : Option ℕ). unwrap_or r (a.e * 2)) c.corner.ensures
+      ∙ corner_or a.edges.now a.e a.c.now false _ (a.e * 2)
+      ∙ ap (start_corner a.edges.now a.e a.c.now)
+      (sent c.from-1.given ∙ (node_cells_lem a.nodes.now a.u c.requires.0.ranges).number)
 
-  start-among : c.corner-start.result < c.args.e * 2 + 2
+  start-among : c.unwrap_or-start.result < c.args.e * 2 + 2
   start-among =
       let a = c.args in
       rw at_start_lem (corner_below a.edges.now a.e a.c.now false
@@ -77,5 +80,5 @@ returns c =
     let i = subst (λ (x : ℕ). Joined l a.e x (end_corner l a.e a.c.now (pos u) (pos v)) m.next.edges
     (drawn u v d φ m)) (sym (at_start_lem c.before.before)) j in
     c.rings_differ.ensures m.next.edges (drawn u v d φ m)
-    (subst (λ (x : ℕ). Joined l a.e c.corner-start.result x m.next.edges (drawn u v d φ m))
+    (subst (λ (x : ℕ). Joined l a.e c.unwrap_or-start.result x m.next.edges (drawn u v d φ m))
     (sym (at_end_lem c.before)) i)

@@ -1,18 +1,15 @@
 -- `reason_curves::is_end` meets its contract. Assumes nothing.
-
+use mathlib.Core.Path.{refl}
+use Rattle.reason_curves.proofs.Points.{met}
 use Rattle.reason_curves.proofs.is_end.Goals as goal
 
-pub returns : goal.returns
-returns c =
+pub returns-then-eq : goal.returns-then-eq
+returns-then-eq c =
+    rw (c.if-eq.true, met {p = c.args.p} {q = c.first_point.result} c.eq.ensures refl c.first_point.ensures.0 c.if-eq.true)
+
+pub returns-else-eq : goal.returns-else-eq
+returns-else-eq c =
     rw (
-      c.same_point-2.ensures,
-      c.same_point.ensures,
-      c.last_point.ensures.0,
-      c.first_point.ensures.0,
+      met {p = c.args.p} {q = c.first_point.result} c.eq.ensures refl c.first_point.ensures.0 c.if-eq.false,
+      met {p = c.args.p} {q = c.last_point.result} c.eq-else-eq.ensures refl c.last_point.ensures.0 refl,
     )
-
-pub first_point-requires : goal.first_point-requires
-first_point-requires c = c.requires.0
-
-pub last_point-requires : goal.last_point-requires
-last_point-requires c = c.requires.0

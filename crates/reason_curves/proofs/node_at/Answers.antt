@@ -1,7 +1,7 @@
 -- `reason_curves::node_at` meets its contract: a row from i on holds another node at the point if and only if one does.
 -- Assumes nothing.
-use mathlib.Core.Path.{◌≡◌, sym, ap, ◌∙◌}
-use mathlib.Core.Bool.{Bool, not, ◌&&◌}
+use mathlib.Core.Path.{◌≡◌, refl, sym, ap, ◌∙◌}
+use mathlib.Core.Bool.{true, false}
 use mathlib.Core.List.{List}
 use Prim.Native.Nat.{ℕ, ◌-◌, ◌≤◌}
 use native.Mathlib.Nat.{sub-zero}
@@ -11,6 +11,8 @@ use lib.IntN.{ℤ}
 use Rattle.lists.specs.Tests.{same}
 use Rattle.lists.specs.Scans.{any_of}
 use Rattle.lists.specs.Tables.{table}
+use Rattle.lists.proofs.Bools.{same_eq, same_false}
+use Rattle.reason_curves.proofs.Points.{met}
 use Rattle.lists.proofs.Scans.{any_hit, any_miss, any_end}
 use Rattle.plane.specs.declared.Point.{Point}
 use Rattle.plane.specs.Points.{same_point}
@@ -18,26 +20,27 @@ use Rattle.map_rows.specs.Rows.{node_at}
 use Rattle.map_rows.proofs.Rows.{node-row_of}
 use Rattle.reason_curves.proofs.node_at.Invariants.{other}
 use Rattle.reason_curves.proofs.node_at.Goals as goal
+use Rattle.reason_curves.proofs.node_at.Goals.{else-i-own-via-then-i-own+else-eq, else-i-own-via-else-i-own}
 
--- what the tests of row i answered
-told : (l : List ℤ) (own i : ℕ) (p : Point) {q : Point} {r v : Bool} → q ≡ (node_at l i).at → r ≡ same_point q p
-    → not (eqb i own) && r ≡ v → other l own p i ≡ v
-unfolding same
-told l own i p eq er e = ap (λ (t : Bool). not (eqb i own) && t) (sym (er ∙ ap (λ (t : Point). same_point t p) eq)) ∙ e
-
-pub returns-then-i-own : goal.returns-then-i-own
-returns-then-i-own c =
+pub returns-then-eq : goal.returns-then-eq
+returns-then-eq c =
     let a = c.args in
-    let e = told a.nodes.now a.own _ a.p c.node_point.ensures.0
-    c.same_point.ensures c.if-i-own.true in
+    let e : other a.nodes.now a.own a.p c.loop-i.i ≡ true = rw (
+      same_false _ _ c.if-i-own.true,
+      met c.eq.ensures c.node_point.ensures.0 refl c.if-eq.true,
+    ) in
     sym (any_hit (λ i. i) _ _ (other a.nodes.now a.own a.p) c.loop-i-test.true e)
     ∙ c.loop-i.invariant.1
 
 pub loop-i-preserved : goal.loop-i-preserved
 loop-i-preserved c =
     let a = c.args in
-    let e = told a.nodes.now a.own _ a.p c.node_point.ensures.0
-    c.same_point.ensures c.if-i-own.false in (
+    let e : other a.nodes.now a.own a.p c.loop-i.i ≡ false =
+    elim c.else-i-own.branch [
+      | else-i-own-via-then-i-own+else-eq w ↦
+          rw (same_false _ _ w.if-i-own.true, met w.eq.ensures w.node_point.ensures.0 refl w.if-eq.false)
+      | else-i-own-via-else-i-own w ↦ rw (same_eq _ _ w.if-i-own.false)
+    ] in (
       omega arith,
       sym (any_miss (λ i. i) _ _ (other a.nodes.now a.own a.p)
           c.loop-i-test.true e) ∙ c.loop-i.invariant.1,

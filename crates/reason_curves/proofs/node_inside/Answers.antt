@@ -1,7 +1,7 @@
 -- `reason_curves::node_inside` meets its contract: a node from row i on lies inside the curve if and only if one does.
 -- Assumes nothing.
 use mathlib.Core.Path.{◌≡◌, sym, ap, ◌∙◌}
-use mathlib.Core.Bool.{Bool, not, ◌&&◌}
+use mathlib.Core.Bool.{Bool, false, not, ◌&&◌}
 use Prim.Native.Nat.{◌-◌, ◌≤◌}
 use native.Mathlib.Nat.{sub-zero}
 use native.Mathlib.Omega.{arith}
@@ -17,6 +17,7 @@ use Rattle.map_rows.specs.Rows.{node_at, node_map}
 use Rattle.map_rows.proofs.Rows.{nodes_table, node-row_of}
 use Rattle.reason_curves.proofs.node_inside.Invariants.{inner}
 use Rattle.reason_curves.proofs.node_inside.Goals as goal
+use Rattle.reason_curves.proofs.node_inside.Goals.{else-on_curve-via-then-on_curve+else-not-is_end, else-on_curve-via-else-on_curve}
 
 -- what the tests of a point answered
 told : (c : Curve) {p q : Point} {r s v : Bool} → p ≡ q → r ≡ on_curve c p → s ≡ is_end c p → r && not s ≡ v → inner c q
@@ -32,19 +33,25 @@ loop-i-init c = (
       (sym (nodes_table c.args.nodes.now c.args.n))),
 )
 
-pub returns-then-on_curve-is_end : goal.returns-then-on_curve-is_end
-returns-then-on_curve-is_end c =
+pub returns-then-not-is_end : goal.returns-then-not-is_end
+returns-then-not-is_end c =
     let a = c.args in
-    let e = told (curve_of a.c.now) c.node_point-p.ensures.0
-    c.on_curve.ensures c.is_end.ensures c.if-on_curve-is_end.true in
+    let e = told (curve_of a.c.now) c.node_point-p.ensures.0 c.on_curve.ensures c.is_end.ensures
+    (rw (c.if-on_curve.true) c.if-not-is_end.true-raw) in
     sym (any_hit (node_at a.nodes.now) _ _ (λ (d : Node). inner (curve_of a.c.now) d.at)
     c.loop-i-test.true e) ∙ c.loop-i.invariant.1
 
 pub loop-i-preserved : goal.loop-i-preserved
 loop-i-preserved c =
     let a = c.args in
-    let e = told (curve_of a.c.now) c.node_point-p.ensures.0
-    c.on_curve.ensures c.is_end.ensures c.if-on_curve-is_end.false in (
+    let e : inner (curve_of a.c.now) (node_at a.nodes.now c.loop-i.i).at ≡ false =
+    elim c.else-on_curve.branch [
+      | else-on_curve-via-then-on_curve+else-not-is_end w ↦
+          told (curve_of a.c.now) c.node_point-p.ensures.0 c.on_curve.ensures w.is_end.ensures
+          (rw (w.if-on_curve.true) w.if-not-is_end.false-raw)
+      | else-on_curve-via-else-on_curve w ↦
+          rw (← c.node_point-p.ensures.0, ← c.on_curve.ensures, w.if-on_curve.false)
+    ] in (
       omega arith,
       sym (any_miss (node_at a.nodes.now) _ _ (λ (d : Node). inner (curve_of a.c.now) d.at)
           c.loop-i-test.true e)

@@ -6,29 +6,29 @@ use Rattle.map.specs.Reasons.{first_reason}
 use Rattle.curves.proofs.Runs.{run_wider}
 use Rattle.reason_curves.proofs.read_curve.Goals as goal
 
-pub returns-then-not-is_run : goal.returns-then-not-is_run
+pub returns-then-not-is_run-clause-refused : goal.returns-then-not-is_run-clause-refused
 unfolding first_reason
-returns-then-not-is_run c = rw (← c.is_run.ensures, c.if-not-is_run.true) c.without_curve.ensures
+returns-then-not-is_run-clause-refused c = rw (← c.is_run.ensures, c.if-not-is_run.true)
 
-pub returns-then-not-neighbours_differ : goal.returns-then-not-neighbours_differ
+pub returns-then-not-neighbours_differ-clause-refused : goal.returns-then-not-neighbours_differ-clause-refused
 unfolding first_reason
-returns-then-not-neighbours_differ c =
+returns-then-not-neighbours_differ-clause-refused c =
     rw (
       ← c.is_run.ensures,
       c.if-not-is_run.false,
       ← c.neighbours_differ.ensures,
       c.if-not-neighbours_differ.true,
-    ) c.without_curve-then-not-neighbours_differ.ensures
+    )
 
-pub returns : goal.returns
+pub returns-clause-refused : goal.returns-clause-refused
 unfolding first_reason
-returns c =
+returns-clause-refused c =
     rw (
       ← c.is_run.ensures,
       c.if-not-is_run.false,
       ← c.neighbours_differ.ensures,
       c.if-not-neighbours_differ.false,
-    ) (λ i. record { reason = 0; line = c.without_surplus.ensures i })
+    )
 
 pub neighbours_differ-requires : goal.neighbours_differ-requires
 neighbours_differ-requires c = record {

@@ -7,7 +7,6 @@ use Rattle.plane.specs.Directions.{Way}
 use Rattle.curves.specs.Curves.{curve_of, start_way}
 use Rattle.curves.proofs.Reverses.{end_way_lem}
 use Rattle.reason_departures.specs.Turning.{way_taken_at}
-use borrow.Author.Rules.{rules}
 use Rattle.reason_departures.proofs.direction_taken.Lts as lts
 use Rattle.reason_departures.proofs.direction_taken.Tie as tie
 use Rattle.reason_departures.proofs.direction_taken.Reads as reads
@@ -31,11 +30,11 @@ start c =
 pub returns-then-way_taken : goal.returns-then-way_taken
 returns-then-way_taken c = rw (sym (start c.before), c.if-way_taken.true)
 
-pub returns : goal.returns
-returns c =
+pub returns-else-way_taken : goal.returns-else-way_taken
+returns-else-way_taken c =
     let s = c in
     let a = s.args in
     rw (sym (start c.before.before.before), c.if-way_taken.false)
-    (c.way_taken-2.ensures
+    (c.way_taken-else-way_taken.ensures
     ∙ ap₂ (λ (z : ℤ) (w : Way). way_taken_at a.edges.now a.count a.own z w) (to_z-of_z {w = w64} s.ranges.v)
-    (c.first_step-2.ensures.way ∙ end_way_lem s.requires.1))
+    (c.first_step-else-way_taken.ensures.way ∙ end_way_lem s.requires.1))

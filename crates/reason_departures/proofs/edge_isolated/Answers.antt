@@ -2,34 +2,60 @@
 use borrow.Author.Rules.{sfits_of}
 use mathlib.Core.Path.{◌≡◌, refl, sym, ap, ◌∙◌}
 use mathlib.Core.Bool.{Bool, not, ◌&&◌}
-use Prim.Native.Nat.{◌+◌, ◌*◌}
+use Prim.Native.Nat.{ℕ, ◌+◌, ◌*◌}
 use lib.IntN.{ℤ, pos}
 use lib.ListN.{get_or}
 use mir.Syntax.{w64}
-use mir.Val.{to_z, of_z}
+use mir.Val.{of_z}
 use mir.Facts.{to_z-of_z}
 use Rattle.lists.specs.Tests.{same}
+use Rattle.lists.specs.Scans.{count_of}
+use Rattle.links.specs.Linking.{positions, leaves_node}
+use Rattle.tables.proofs.Order.{is_same, not_same, word_is, word_test}
 use Rattle.tables.specs.Tables.{same_z}
-use Rattle.links.proofs.Words.{cell_test}
 use Rattle.reason_departures.proofs.Ends.{isolated_is}
-use borrow.Author.Rules.{rules}
 use Rattle.reason_departures.proofs.edge_isolated.Goals as goal
+use Rattle.reason_departures.proofs.edge_isolated.Goals.{Joined-u-v, then-u-v, else-u-v}
 
-pub returns : goal.returns
+module _ (c : Joined-u-v) where
+  abbrev u : ℤ
+  u = get_or c.args.edges.now (c.args.i * 32 + 1) (pos 0)
+
+  abbrev v : ℤ
+  v = get_or c.args.edges.now (c.args.i * 32 + 2) (pos 0)
+
+  -- the first two tests
+  pair : c.if-u-v.value ≡ not (same_z u v) && same (count_of (leaves_node c.args.edges.now u) (positions c.args.count)) 1
+  unfolding same
+  pair =
+      let fu = sfits_of c.u-1.given in
+      let fv = sfits_of c.v-1.given in
+      elim c.if-u-v.branch [
+        | then-u-v w ↦ w.value-is
+            ∙ ap (λ (k : ℕ). same k 1) (w.edge_ends.ensures.0
+            ∙ ap (λ (z : ℤ). count_of (leaves_node c.args.edges.now z) (positions c.args.count)) (to_z-of_z {w = w64} fu))
+            ∙ ap (λ (b : Bool). not b && same (count_of (leaves_node c.args.edges.now u) (positions c.args.count)) 1)
+            (sym (not_same u v (λ q. w.if-u-v.true (ap (of_z w64) q))))
+        | else-u-v w ↦ w.value-is ∙ ap not (word_test fu fv ∙ is_same u v (word_is fu fv w.if-u-v.false))
+            ∙ ap (λ (b : Bool). not b && same (count_of (leaves_node c.args.edges.now u) (positions c.args.count)) 1)
+            (sym (is_same u v (word_is fu fv w.if-u-v.false)))
+      ]
+
+pub returns-then-edge_ends-eq1 : goal.returns-then-edge_ends-eq1
 unfolding same
-returns c =
-    let s = c in
-    let a = s.args in
-    let l = a.edges.now in
-    let u = get_or l (a.i * 32 + 1) (pos 0) in
-    let v = get_or l (a.i * 32 + 2) (pos 0) in
-    let fu = sfits_of c.u-1.given in
-    let fv = sfits_of c.v-1.given in
-    let eu : to_z w64 (of_z w64 u) ≡ u = to_z-of_z {w = w64} fu in
-    let ev : to_z w64 (of_z w64 v) ≡ v = to_z-of_z {w = w64} fv in
-    let first = cell_test u v u fu fv refl in
-    ap (λ (b : Bool). not b && same c.edge_ends.result 1 && same c.edge_ends-2.result 1)
-    (first ∙ ap (λ (z : ℤ). same_z z (to_z w64 (of_z w64 v))) (sym eu))
-    ∙ isolated_is s.requires.0 a.i s.requires.1 (to_z w64 (of_z w64 u)) (to_z w64 (of_z w64 v))
-    c.edge_ends.result c.edge_ends-2.result eu ev c.edge_ends.ensures.0
-    c.edge_ends-2.ensures.0
+returns-then-edge_ends-eq1 c =
+    let p = c.requires in
+    ap (λ (b : Bool). b && same c.edge_ends-then-edge_ends-eq1.result 1) (sym c.if-edge_ends-eq1.true ∙ pair c.before.before)
+    ∙ isolated_is p.0 c.args.i p.1 _ _ _ _ refl refl refl
+    (c.edge_ends-then-edge_ends-eq1.ensures.0
+    ∙ ap (λ (z : ℤ). count_of (leaves_node c.args.edges.now z) (positions c.args.count))
+    (to_z-of_z {w = w64} (sfits_of c.v-1.given)))
+
+pub returns-else-edge_ends-eq1 : goal.returns-else-edge_ends-eq1
+unfolding same
+returns-else-edge_ends-eq1 c =
+    let p = c.requires in
+    c.if-edge_ends-eq1.false
+    ∙ ap (λ (b : Bool). b && same (count_of (leaves_node c.args.edges.now (v c.before)) (positions c.args.count)) 1)
+    (sym c.if-edge_ends-eq1.false ∙ pair c.before)
+    ∙ isolated_is p.0 c.args.i p.1 _ _ _ _ refl refl refl refl

@@ -11,13 +11,11 @@ use Rattle.tables.proofs.Tests.{pos_abs}
 use Rattle.links.specs.Linking.{positions, leaves_node}
 use Rattle.reason_departures.specs.Turning.{ends_at}
 use Rattle.reason_departures.proofs.Ends.{joins_is}
-use borrow.Author.Rules.{rules}
-use borrow.Author.Tests.{not-true, not-false}
 use Rattle.reason_departures.proofs.joins_at.Goals as goal
 
 -- the edge does not end there
-pub returns-then-not-ends_at : goal.returns-then-not-ends_at
-returns-then-not-ends_at c =
+pub returns-else-ends_at : goal.returns-else-ends_at
+returns-else-ends_at c =
     let s = c in
     let a = s.args in
     let l = a.edges.now in
@@ -25,12 +23,12 @@ returns-then-not-ends_at c =
     let z : to_z w64 (of_z w64 a.node) ≡ pos k = to_z-of_z {w = w64} s.ranges.node ∙ pos_abs a.node s.requires.2 in
     let n = count_of (leaves_node l (pos k)) (positions a.count) in
     let f = sym (ap (ends_at l a.j) z) ∙ sym c.ends_at.ensures
-    ∙ (not-true _ c.if-not-ends_at.true-raw) in
-    sym (ap (λ (b : Bool). b && same n 2) f) ∙ joins_is s.requires.0 a.j s.requires.1 k n refl
+    ∙ c.if-ends_at.false in
+    c.if-ends_at.false ∙ sym (ap (λ (b : Bool). b && same n 2) f) ∙ joins_is s.requires.0 a.j s.requires.1 k n refl
 
-pub returns : goal.returns
+pub returns-then-ends_at : goal.returns-then-ends_at
 unfolding same
-returns c =
+returns-then-ends_at c =
     let d = c in
     let s = d in
     let a = s.args in
@@ -38,7 +36,7 @@ returns c =
     let k = nat_abs a.node in
     let z : to_z w64 (of_z w64 a.node) ≡ pos k = to_z-of_z {w = w64} s.ranges.node ∙ pos_abs a.node s.requires.2 in
     let f = sym (ap (ends_at l a.j) z) ∙ sym d.ends_at.ensures
-    ∙ (not-false _ c.if-not-ends_at.false-raw) in
+    ∙ c.if-ends_at.true in
     sym (ap (λ (b : Bool). b && same c.edge_ends.result 2) f)
     ∙ joins_is s.requires.0 a.j s.requires.1 k c.edge_ends.result
     (c.edge_ends.ensures.0 ∙ ap (λ (z : ℤ). count_of (leaves_node l z) (positions a.count)) z)

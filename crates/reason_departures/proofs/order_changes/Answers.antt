@@ -15,7 +15,6 @@ use Rattle.links.specs.Linking.{positions, leaves_node}
 use Rattle.reason_departures.specs.Turning.{turns_at}
 use Rattle.reason_departures.proofs.Ends.{start_cell, end-cell}
 use Rattle.reason_departures.proofs.Turns.{order_is}
-use borrow.Author.Rules.{rules}
 use Rattle.reason_departures.proofs.order_changes.Lts as lts
 use Rattle.reason_departures.proofs.order_changes.Tie as tie
 use Rattle.reason_departures.proofs.order_changes.Reads as reads
@@ -40,7 +39,7 @@ start c =
     let a = s.args in
     c.turn_changes.ensures
     ∙ ap (atNode a.edges.now a.count a.own a.c.now)
-    (to_z-of_z {w = w64} (sfits_of c.turn_changes-arg-1.given) ∙ start_cell s.requires.0 a.own s.requires.2)
+    (to_z-of_z {w = w64} (sfits_of c.u-1.given) ∙ start_cell s.requires.0 a.own s.requires.2)
 
 pub returns-then-turn_changes : goal.returns-then-turn_changes
 unfolding atNode
@@ -50,19 +49,19 @@ returns-then-turn_changes c =
     let l = a.edges.now in
     let y = atNode l a.count a.own a.c.now
     (pos (edge (edge_map l a.count) (edge_at l a.own).number).end) in
-    ap (λ (b : Bool). b || y) (sym c.if-turn_changes.true)
+    c.if-turn_changes.true ∙ ap (λ (b : Bool). b || y) (sym c.if-turn_changes.true)
     ∙ order_is s.requires.0 a.own s.requires.2 a.c.now c.turn_changes.result y (start c.before) refl
 
-pub returns : goal.returns
+pub returns-else-turn_changes : goal.returns-else-turn_changes
 unfolding atNode
-returns c =
+returns-else-turn_changes c =
     let s = c in
     let a = s.args in
     let l = a.edges.now in
-    let y = c.turn_changes-2.result in
-    let end = c.turn_changes-2.ensures
+    let y = c.turn_changes-else-turn_changes.result in
+    let end = c.turn_changes-else-turn_changes.ensures
     ∙ ap (atNode l a.count a.own a.c.now)
-    (to_z-of_z {w = w64} (sfits_of c.turn_changes-arg-2-1.given) ∙ end-cell s.requires.0 a.own s.requires.2) in
+    (to_z-of_z {w = w64} (sfits_of c.v-1.given) ∙ end-cell s.requires.0 a.own s.requires.2) in
     ap (λ (b : Bool). b || y) (sym c.if-turn_changes.false)
     ∙ order_is s.requires.0 a.own s.requires.2 a.c.now c.turn_changes.result y
-    (start c.before.before.before) end
+    (start c.before.before) end

@@ -12,7 +12,7 @@ use Rattle.map.specs.Edits.{is_new}
 use Rattle.map_rows.specs.Rows.{edge_at}
 use Rattle.map_rows.proofs.Rows.{edge_cells_lem}
 use Rattle.outcomes.proofs.Words.{number_test, small_fits}
-use Rattle.reason_edges.proofs.Words.{lower-zero}
+use Rattle.reason_edges.proofs.Words.{lower-zero, new_told}
 use Rattle.reason_edges.proofs.makes_face.Goals as goal
 
 pub returns : goal.returns
@@ -29,7 +29,7 @@ returns c =
     let fx = sfits_of c.left-1.given in
     let fy = sfits_of c.right-1.given in
     rw (
-      c.is_new.ensures,
+      c.eq.ensures ∙ new_told a.how,
       number_test x y left right fx fy cells.left cells.right,
       number_test x (pos 0) left 0 fx (small_fits 0 (lit≤ tt)) cells.left refl,
       number_test y (pos 0) right 0 fy (small_fits 0 (lit≤ tt)) cells.right refl,

@@ -16,7 +16,8 @@ use Rattle.map_rows.proofs.Rows.{nodes_table, node-row_of}
 use Rattle.reason_sides.specs.Passing.{passes_over}
 use Rattle.reason_sides.proofs.node_passed.Invariants.{passed}
 use Rattle.reason_sides.proofs.node_passed.Goals as goal
-use Rattle.reason_sides.proofs.node_passed.Goals.{then-is_isolated+else-passes_over, else-is_isolated}
+use Rattle.reason_sides.proofs.node_passed.Goals.{else-is_isolated-via-then-is_isolated+else-passes_over}
+use Rattle.reason_sides.proofs.node_passed.Goals.{else-is_isolated-via-else-is_isolated}
 
 -- what the tests of row k answered
 told : (a b : Curve) (d : Node) {x y v : Bool} {p : Point} → x ≡ is_some d.face → x ≡ true → p ≡ d.at
@@ -48,22 +49,19 @@ returns-then-passes_over c =
 
 pub loop-k-preserved : goal.loop-k-preserved
 loop-k-preserved c =
-    let k = c in
-    let b = k in
-    let a = b.args in
-    let d = node_at a.nodes.now b.loop-k.k in
+    let a = c.args in
+    let d = node_at a.nodes.now c.loop-k.k in
     let old = curve_of a.a.now in
     let new = curve_of a.b.now in
     let e : passed old new d ≡ false =
-    elim c.if-is_isolated.branch [
-      | then-is_isolated+else-passes_over w ↦ told old new d k.is_isolated.ensures w.if-is_isolated.true w.node_point.ensures.0
-          w.passes_over.ensures w.if-passes_over.false
-      | else-is_isolated w ↦ ap (λ (x : Bool). x && passes_over old new d.at)
-          (sym k.is_isolated.ensures ∙ w.if-is_isolated.false)
+    elim c.else-is_isolated.branch [
+      | else-is_isolated-via-then-is_isolated+else-passes_over w ↦ told old new d c.is_isolated.ensures
+          w.if-is_isolated.true w.node_point.ensures.0 w.passes_over.ensures w.if-passes_over.false
+      | else-is_isolated-via-else-is_isolated w ↦ ap (λ (x : Bool). x && passes_over old new d.at)
+          (sym c.is_isolated.ensures ∙ w.if-is_isolated.false)
     ] in (
       omega arith,
-      sym (any_miss (node_at a.nodes.now) _ _ (passed old new) b.loop-k-test.true e)
-          ∙ b.loop-k.invariant.1,
+      sym (any_miss (node_at a.nodes.now) _ _ (passed old new) c.loop-k-test.true e) ∙ c.loop-k.invariant.1,
     )
 
 pub returns : goal.returns

@@ -16,12 +16,6 @@ count c = edges_read (counted c.requires.0) c.to_usize.ensures
 few : (c : goal.After-to_usize) → c.args.i * 2 + 1 < 4000
 few c = let s = c in omega (arith, s.requires.1, (ended s.requires.0).few_edges)
 
-pub returns-then-not-one_face : goal.returns-then-not-one_face
-returns-then-not-one_face c =
-    let s = c in
-    sym (two_faces s.requires.0 s.args.i s.requires.1 (sym c.one_face.ensures
-    ∙ c.if-not-one_face.true))
-
 pub on_ring-requires : goal.on_ring-requires
 on_ring-requires c =
     let s = c in
@@ -38,11 +32,15 @@ to_usize-requires c = edges_natural (counted c.requires.0)
 pub overflow_mul-i : goal.overflow_mul-i
 overflow_mul-i c = omega (arith, few c)
 
-pub overflow_mul-i-2 : goal.overflow_mul-i-2
-overflow_mul-i-2 c = omega (arith, few c)
+pub overflow_mul-i-then-one_face : goal.overflow_mul-i-then-one_face
+overflow_mul-i-then-one_face c = omega (arith, few c)
 
 pub overflow_add-i : goal.overflow_add-i
 overflow_add-i c = omega (arith, few c)
 
-pub returns : goal.returns
-returns c = rw (count c.before) at c.on_ring.ensures
+pub returns-then-one_face : goal.returns-then-one_face
+returns-then-one_face c = rw (edges_read (counted c.requires.0) c.to_usize.ensures) at c.on_ring.ensures
+
+pub returns-else-one_face : goal.returns-else-one_face
+returns-else-one_face c =
+    c.if-one_face.false ∙ sym (two_faces c.requires.0 c.args.i c.requires.1 (sym c.if-one_face.ensures))

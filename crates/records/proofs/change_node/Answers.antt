@@ -6,10 +6,10 @@ use Rattle.records.proofs.change_node.Goals as goal
 pub offset_bounds-nodes-i : goal.offset_bounds-nodes-i
 offset_bounds-nodes-i c =
     let a = c.args in
-    let w = found_below a.nodes.now a.count _ c.in-At.i (sym c.find_node-found.ensures ∙ c.in-At.is) in
+    let w = found_below a.nodes.now a.count _ c.in-Some.i (sym c.find_node.ensures ∙ c.in-Some.is) in
     search rules
 
 pub bounds-nodes-i : goal.bounds-nodes-i
 bounds-nodes-i c =
     let a = c.args in
-    found_below a.nodes.now a.count _ c.in-At.i (sym c.find_node-found.ensures ∙ c.in-At.is)
+    found_below a.nodes.now a.count _ c.in-Some.i (sym c.find_node.ensures ∙ c.in-Some.is)

@@ -8,6 +8,3 @@ invariant-loop-i l = record {
   within : l.i ≤ length l.nodes;
   past : l.found ≡ searched l.nodes l.count l.number l.i;
 }
-
-abbrev pub decreases-loop-i : goal.decreases-loop-i
-decreases-loop-i l = l.i

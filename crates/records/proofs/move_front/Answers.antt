@@ -1,8 +1,8 @@
 -- Turned down, nothing is touched; carried out, the row that the number is found at is the one written anew.
+use Rattle.std.specs.Prelude.{Some, None}
 use Rattle.std.proofs.Common.{ℕ, List, ℤ, [], ◌∷◌, ◌≡◌, pos, take, to_z, of_z, w64, arith, sym, ◌∙◌}
 use mir.Val.{SFits}
 use mir.Facts.{to_z-of_z}
-use Rattle.lists.specs.declared.Found.TheVariants.{At, Missing}
 use Rattle.map.specs.declared.Head.{Head}
 use Rattle.map.specs.Rows.{lent}
 use Rattle.map.specs.Ticket.{ticket}
@@ -34,7 +34,7 @@ returns-then-answer-ne0 c =
     let l = t.new in
     moves_refused a.k a.flat.now l.flat a.edges.now l.edges a.faces.now l.faces a.h a.node a.x a.y t.result c.requires
     (said a.k a.flat.now l.flat a.edges.now l.edges a.faces.now l.faces a.h a.node a.x a.y t.result f.node f.x f.y
-    t.ensures) c.if-answer-ne0.true c.not_moved.result c.not_moved.ensures
+    t.ensures) c.if-answer-ne0.true
 
 pub to_usize-count-requires : goal.to_usize-count-requires
 to_usize-count-requires c =
@@ -47,8 +47,8 @@ to_usize-count-requires c =
     nodes_natural (counted (done_at a.k a.flat.now l.flat a.edges.now l.edges a.faces.now l.faces a.h a.node a.x a.y
     t.result c.requires s c.if-answer-ne0.false).formed)
 
-pub find_row-found-requires : goal.find_row-found-requires
-find_row-found-requires c =
+pub find_row-requires : goal.find_row-requires
+find_row-requires c =
     let a = c.args in
     let f = c.ranges in
     let t = c.ticket_front-done in
@@ -71,15 +71,15 @@ returns-in_default c =
     let d = done_at a.k a.flat.now l.flat a.edges.now l.edges a.faces.now l.faces a.h a.node a.x a.y t.result c.requires s
     c.if-answer-ne0.false in
     let n = nodes_read (counted d.formed) c.to_usize-count.ensures in
-    let q : Missing ≡ At d.i = sym (place_told 4 l.flat n (to_z-of_z {w = w64} f.node) c.find_row-found.ensures
+    let q : None ≡ Some d.i = sym (place_told 4 l.flat n (to_z-of_z {w = w64} f.node) c.find_row.ensures
     c.in_default.is)
     ∙ found_at a.k a.flat.now l.flat a.edges.now l.edges a.faces.now l.faces a.h a.node a.x a.y t.result c.requires s
     c.if-answer-ne0.false in
     let z : ◌≡◌ {A = ℕ} 0 1 = cc in
     absurd (omega arith)
 
-pub row_at-n-requires : goal.row_at-n-requires
-row_at-n-requires c =
+pub row_at-requires : goal.row_at-requires
+row_at-requires c =
     let a = c.args in
     let f = c.ranges in
     let t = c.ticket_front-done in
@@ -89,8 +89,8 @@ row_at-n-requires c =
     let n = nodes_read (counted (done_at a.k a.flat.now l.flat a.edges.now l.edges a.faces.now l.faces a.h a.node a.x a.y
     t.result c.requires s c.if-answer-ne0.false).formed) c.to_usize-count.ensures in
     row_in a.k a.flat.now l.flat a.edges.now l.edges a.faces.now l.faces a.h a.node a.x a.y t.result c.requires s
-    c.if-answer-ne0.false c.in-At.i
-    (place_told 4 l.flat n (to_z-of_z {w = w64} f.node) c.find_row-found.ensures c.in-At.is)
+    c.if-answer-ne0.false c.in-Some.i
+    (place_told 4 l.flat n (to_z-of_z {w = w64} f.node) c.find_row.ensures c.in-Some.is)
 
 pub returns : goal.returns
 returns c =
@@ -103,7 +103,7 @@ returns c =
     let n = nodes_read (counted (done_at a.k a.flat.now l.flat a.edges.now l.edges a.faces.now l.faces a.h a.node a.x a.y
     t.result c.requires s c.if-answer-ne0.false).formed) c.to_usize-count.ensures in
     moves_carried a.k a.flat.now l.flat a.edges.now l.edges a.faces.now l.faces a.h a.node a.x a.y t.result c.requires s
-    c.if-answer-ne0.false c.in-At.i
-    (place_told 4 l.flat n (to_z-of_z {w = w64} f.node) c.find_row-found.ensures c.in-At.is)
-    (record { answer = t.result.answer; count = c.to_usize-count.result; node = c.row_at-n.result })
-    (λ j. record { answer = t.result.answer; count = n j; node = c.row_at-n.ensures j })
+    c.if-answer-ne0.false c.in-Some.i
+    (place_told 4 l.flat n (to_z-of_z {w = w64} f.node) c.find_row.ensures c.in-Some.is)
+    (record { count = c.to_usize-count.result; node = c.row_at.result })
+    (λ j. record { count = n j; node = c.row_at.ensures j })

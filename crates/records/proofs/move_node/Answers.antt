@@ -8,5 +8,5 @@ use Rattle.records.proofs.move_node.Goals as goal
 pub returns-then-nodes-gt-NODES : goal.returns-then-nodes-gt-NODES
 returns-then-nodes-gt-NODES c =
     let a = c.args in
-    sym (crowded (lent (node_table a.nodes.now) a.edges.now a.faces.now a.head.now)
-    (pos 2 ∷ a.node ∷ a.x ∷ a.y ∷ []) a.nodes.now refl c.if-nodes-gt-NODES.true)
+    rw c.from.ensures (sym (crowded (lent (node_table a.nodes.now) a.edges.now a.faces.now a.head.now)
+    (pos 2 ∷ a.node ∷ a.x ∷ a.y ∷ []) a.nodes.now refl c.if-nodes-gt-NODES.true))

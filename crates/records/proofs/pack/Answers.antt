@@ -9,10 +9,6 @@ pub loop-i-preserved : goal.loop-i-preserved
 loop-i-preserved c =
     let ys = c.args.nodes.now in
     let i = c.loop-i.i in
-    let within = c.loop-i-test.true in
-    record {
-      within = omega (arith, within);
-      packed = c.put_row.ensures
-          ∙ ap (λ (l : List ℤ). paste l (i * 4) (record_cells (get_or ys i no_node)) 4) c.loop-i.invariant.packed
-          ∙ pack-turn c.args.flat.now ys i within c.requires;
-    }
+    c.put_row.ensures
+    ∙ ap (λ (l : List ℤ). paste l (i * 4) (record_cells (get_or ys i no_node)) 4) c.loop-i.invariant
+    ∙ pack-turn c.args.flat.now ys i c.loop-i-test.true c.requires

@@ -16,7 +16,7 @@ returns c =
     let room : n * 4 ≤ length t.new.flat =
     (let k = c.requires in let p = c.pack.auto.flat in let q = t.auto.flat in omega arith) in
     (λ j. record {
-      lent = lent (node_table (c.unpack.ensures j)) t.new.edges t.new.faces (c.set_head.ensures j);
+      lent = lent (node_table (c.unpack.ensures j)) t.new.edges t.new.faces t.result.head;
       answer = t.result.answer;
     })
     ∙ ap (λ (v : List ℤ). outcome v t.new.edges t.new.faces t.result) (unpacked t.new.flat n room)

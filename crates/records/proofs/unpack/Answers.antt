@@ -10,7 +10,7 @@ loop-i-preserved c =
     let l = c.args.flat.now in
     let i = c.loop-i.i in
     let within : i < length c.args.nodes.now = (let h = c.loop-i-test.true in let k = c.loop-i.auto.nodes in omega arith) in
-    ap (slice_set c.loop-i.nodes i) c.row_at-n.ensures
+    ap (slice_set c.loop-i.nodes i) c.row_at.ensures
     ∙ ap (λ (zs : List Node). slice_set zs i (row_node l i)) c.loop-i.invariant
     ∙ unpack-turn l c.args.nodes.now i within
 

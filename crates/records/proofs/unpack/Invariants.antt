@@ -8,6 +8,3 @@ use Rattle.records.proofs.unpack.Given as goal
 abbrev pub invariant-loop-i : goal.invariant-loop-i
 invariant-loop-i l = l.nodes
     ≡ paste l.initial.nodes 0 (table (row_node l.flat) 0 (length l.initial.nodes)) l.i
-
-abbrev pub decreases-loop-i : goal.decreases-loop-i
-decreases-loop-i l = length l.initial.nodes - l.i

@@ -1,6 +1,5 @@
 -- `rectangles::set_rectangle` meets its contract. Assumes nothing.
-use borrow.Author.Rules.{rules}
-use mathlib.Core.Path.{sym, ap, ◌∙◌, subst}
+use mathlib.Core.Path.{ap, ◌∙◌}
 use lib.IntN.{ℤ, pos, nat_abs}
 use mir.Syntax.{w64}
 use mir.Val.{of_z}
@@ -8,15 +7,9 @@ use mir.Facts.{to_z-of_z}
 use Rattle.lists.specs.Tables.{sweep}
 use Rattle.lists.proofs.Bools.{same_eq, same_false}
 use Rattle.bounding_boxes.specs.declared.Extent.{Extent}
-use Rattle.rectangles.specs.Boxes.{Bounded, set_row}
-use Rattle.rectangles.proofs.Boundaries.{settled_bounded}
+use Rattle.rectangles.specs.Boxes.{set_row}
 use Rattle.rectangles.proofs.Settings.{zero_word}
 use Rattle.rectangles.proofs.set_rectangle.Goals as goal
-
-pub write_rectangle-requires : goal.write_rectangle-requires
-write_rectangle-requires c =
-    let s = c in
-    (s.requires.0, subst Bounded (sym c.settled.ensures) (settled_bounded s.args.e s.requires.2))
 
 pub returns-then-face-ne0 : goal.returns-then-face-ne0
 returns-then-face-ne0 c =

@@ -1,27 +1,22 @@
 -- `rectangles::set_rectangles` meets its contract: one face is set after the other. Assumes nothing.
-use borrow.Author.Rules.{rules}
-use borrow.Author.Tests.{eqb-true}
 use mathlib.Core.Path.{◌≡◌, ap, ◌∙◌}
 use native.Mathlib.Omega.{arith}
-use lib.Dec.{eqb}
 use lib.IntN.{ℤ, pos, nat_abs}
 use mir.Syntax.{w64}
 use mir.Val.{to_z, of_z, SFits}
 use mir.Facts.{to_z-of_z}
-use Rattle.lists.proofs.Bools.{and-true, same_eq}
+use Rattle.lists.proofs.Bools.{same_eq}
 use Rattle.map.specs.Rows.{rectangle}
 use Rattle.map_rows.specs.Rows.{edges_of}
 use Rattle.rectangles.specs.Boxes.{set_face}
 use Rattle.rectangles.proofs.Settings.{zero_word, face_done, face_bounded}
 use Rattle.rectangles.proofs.set_rectangles.Goals as goal
 
-pub returns-then-a-b : goal.returns-then-a-b
-returns-then-a-b c =
-    let s = c in
-    let a = s.args in
-    let both = and-true (eqb (of_z w64 a.a) 0) (eqb (of_z w64 a.b) 0) c.if-a-b.true in
-    let p = zero_word s.ranges.a (eqb-true (of_z w64 a.a) 0 both.0) in
-    let q = zero_word s.ranges.b (eqb-true (of_z w64 a.b) 0 both.1) in
+pub returns-then-b-eq0 : goal.returns-then-b-eq0
+returns-then-b-eq0 c =
+    let a = c.args in
+    let p = zero_word c.ranges.a c.if-a-eq0.true in
+    let q = zero_word c.ranges.b c.if-b-eq0.true in
     rw (same_eq (nat_abs a.a) 0 p) (rw (same_eq (nat_abs a.b) 0 q))
 
 -- a face as it is passed
@@ -33,7 +28,7 @@ set_rectangle-requires c =
     let s = c in (
       s.requires.1,
       sent s.ranges.a s.requires.2,
-      face_bounded s.requires.0 (to_z-of_z s.ranges.a) c.boundary_boxes-boxes.ensures.0,
+      face_bounded s.requires.0 (to_z-of_z s.ranges.a) c.boundary_boxes.ensures.0,
     )
 
 pub set_rectangle-requires-2 : goal.set_rectangle-requires-2
@@ -42,17 +37,16 @@ set_rectangle-requires-2 c =
     let s = b in (
       omega (arith, s.requires.1, c.set_rectangle.auto.faces),
       sent s.ranges.b s.requires.3,
-      face_bounded s.requires.0 (to_z-of_z s.ranges.b) b.boundary_boxes-boxes.ensures.1,
+      face_bounded s.requires.0 (to_z-of_z s.ranges.b) s.boundary_boxes.ensures.1,
     )
 
 pub returns : goal.returns
 returns c =
-    let b = c in
-    let s = b in
+    let s = c in
     let a = s.args in
     let es = edges_of a.edges.now a.count in
     let first = c.set_rectangle.ensures
-    ∙ face_done s.requires.0 (to_z-of_z s.ranges.a) b.boundary_boxes-boxes.ensures.0 a.n a.faces.now in
+    ∙ face_done s.requires.0 (to_z-of_z s.ranges.a) s.boundary_boxes.ensures.0 a.n a.faces.now in
     c.set_rectangle-2.ensures
-    ∙ face_done s.requires.0 (to_z-of_z s.ranges.b) b.boundary_boxes-boxes.ensures.1 a.n _
+    ∙ face_done s.requires.0 (to_z-of_z s.ranges.b) s.boundary_boxes.ensures.1 a.n _
     ∙ ap (set_face a.n (nat_abs a.b) (rectangle es (nat_abs a.b))) first

@@ -1,5 +1,4 @@
 -- `rectangles::with_edge` meets its contract: all points of the edge widen the box, or none. Assumes nothing.
-use borrow.Author.Rules.{rules}
 use mathlib.Core.Path.{◌≡◌, sym, ap, ◌∙◌}
 use lib.IntN.{ℤ, nat_abs}
 use mir.Facts.{to_z-of_z}

@@ -1,5 +1,4 @@
 -- `rectangles::write_box` meets its contract: the numbers are written as they are. Assumes nothing.
-use borrow.Author.Rules.{rules}
 use mathlib.Core.Path.{◌≡◌, ◌∙◌}
 use mathlib.Core.List.{[], ◌∷◌}
 use native.Mathlib.Omega.{arith}

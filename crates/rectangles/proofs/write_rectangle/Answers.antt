@@ -1,11 +1,9 @@
 -- `rectangles::write_rectangle` meets its contract: a sweep of the rows left, from what the rows passed left, is the
 -- sweep of all. Assumes nothing.
 use borrow.Author.Rules.{sfits_of}
-use mathlib.Core.Path.{◌≡◌, refl, sym, ap, ◌∙◌}
-use mathlib.Core.Logic.{⊎_elim}
+use mathlib.Core.Path.{◌≡◌, sym, ap, ◌∙◌}
 use mathlib.Core.List.{List}
 use Prim.Native.Nat.{◌+◌, ◌*◌, ◌-◌, ◌≤◌}
-use native.Mathlib.Nat.{sub-zero}
 use native.Mathlib.Omega.{arith}
 use lib.IntN.{ℤ, pos}
 use lib.ListN.{length, get_or}
@@ -19,20 +17,12 @@ use Rattle.tables.proofs.Order.{word_is}
 use Rattle.rectangles.specs.Boxes.{set_row}
 use Rattle.rectangles.proofs.FaceRows.{set_hit, set_miss, set-length}
 use Rattle.rectangles.proofs.write_rectangle.Goals as goal
-use Rattle.rectangles.proofs.write_rectangle.Goals.{then-faces-k, else-faces-k}
-
-pub loop-k-init : goal.loop-k-init
-loop-k-init c = (omega arith, refl, rw sub-zero)
+use Rattle.rectangles.proofs.write_rectangle.Goals.{In-loop-k, then-faces-k, else-faces-k}
 
 -- row k lies in the table
-room : (c : goal.In-loop-k) → let a = c.args in
+room : (c : In-loop-k) → let a = c.args in
     c.loop-k.k * 5 + 5 ≤ a.n * 5
 room c = row_room 5 c.args.n c.loop-k.k c.loop-k-test.true
-
-pub write_box-requires : goal.write_box-requires
-write_box-requires c =
-    let b = c.before.before.before in
-    (omega (arith, room b, b.loop-k.invariant.1, b.requires.0), b.requires.1)
 
 pub loop-k-preserved : goal.loop-k-preserved
 loop-k-preserved c =
@@ -61,21 +51,3 @@ pub returns : goal.returns
 returns c =
     rw (to_z-of_z c.ranges.face) at
     (sym (sweep-end _ _ _ _ c.loop-k-test.false) ∙ c.loop-k.invariant.2)
-
-pub overflow_mul-k : goal.overflow_mul-k
-overflow_mul-k c = omega (arith, room c)
-
-pub offset_bounds-faces-k : goal.offset_bounds-faces-k
-offset_bounds-faces-k c = omega (arith, room c)
-
-pub slice_copy_out-t-10 : goal.slice_copy_out-t-10
-slice_copy_out-t-10 c = omega (arith, room c)
-
-pub overflow_mul-k-then-faces-k : goal.overflow_mul-k-then-faces-k
-overflow_mul-k-then-faces-k c = omega (arith, room c.before.before.before)
-
-pub overflow_add-k : goal.overflow_add-k
-overflow_add-k c = omega (arith, room c.before.before.before)
-
-pub shape_of-faces : goal.shape_of-faces
-shape_of-faces c = c.loop-k.invariant.1

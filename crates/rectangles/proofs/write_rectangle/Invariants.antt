@@ -1,23 +1,10 @@
 -- `rectangles::write_rectangle` meets its contract: a sweep of the rows left, from what the rows passed left, is the
 -- sweep of all. Assumes nothing.
-use borrow.Author.Rules.{sfits_of}
-use mathlib.Core.Path.{◌≡◌, refl, sym, ap, ◌∙◌}
-use mathlib.Core.Logic.{⊎_elim}
-use mathlib.Core.List.{List}
-use Prim.Native.Nat.{◌+◌, ◌*◌, ◌-◌, ◌≤◌}
-use native.Mathlib.Nat.{sub-zero}
-use native.Mathlib.Omega.{arith}
-use lib.IntN.{ℤ, pos}
-use lib.ListN.{length, get_or}
-use mir.Syntax.{w64}
-use mir.Val.{to_z, of_z, SFits}
-use mir.Facts.{to_z-of_z}
+use mathlib.Core.Path.{◌≡◌}
+use Prim.Native.Nat.{◌-◌, ◌≤◌}
+use lib.ListN.{length}
 use Rattle.lists.specs.Tables.{sweep}
-use Rattle.lists.proofs.Scans.{sweep_step, sweep-end}
-use Rattle.tables.proofs.Cells.{row_room}
-use Rattle.tables.proofs.Order.{word_is}
 use Rattle.rectangles.specs.Boxes.{set_row}
-use Rattle.rectangles.proofs.FaceRows.{set_hit, set_miss, set-length}
 use Rattle.rectangles.proofs.write_rectangle.Given as goal
 
 abbrev pub invariant-loop-k : goal.invariant-loop-k

@@ -1,6 +1,6 @@
 -- `tables::search_row` meets its contract, by the number of rows from lo to hi: the half that the number is not in has
 -- only numbers that are less, or greater. Assumes nothing.
-use Prim.Native.Nat.{ℕ, ◌+◌, ◌-◌, ◌*◌, ◌/◌, ◌<◌}
+use Prim.Native.Nat.{ℕ, ◌+◌, ◌-◌, ◌*◌, ◌/◌}
 use mathlib.Core.Path.{◌≡◌, sym, ap, subst, ◌∙◌}
 use mathlib.Core.Bool.{true, false}
 use native.Mathlib.Omega.{arith}
@@ -14,7 +14,6 @@ use borrow.Author.Count.{below_more}
 use borrow.Author.Rules.{sfits_of}
 use Rattle.lists.proofs.Scans.{place_none}
 use Rattle.tables.specs.Tables.{same_z}
-use Rattle.tables.proofs.Cells.{row_room}
 use Rattle.tables.proofs.Order.{less_trans, below_other, greater, word_is, rise}
 use Rattle.tables.proofs.Lookups.{row_met, rows_first, place-before}
 use Rattle.tables.proofs.+search_row.Goals as goal
@@ -25,23 +24,6 @@ returns-then-hi-lo t c =
     let f : ℕ → ℤ = λ k. get_or s.args.t.now (k * s.args.w) (pos 0) in
     sym (place_none f (same_z s.args.number) s.args.hi
     (λ k h. below_other (f k) s.args.number (s.requires.1 k (omega arith))))
-
--- row mid lies in the table
-pub overflow_mul-z : goal.overflow_mul-z
-overflow_mul-z t c =
-    let a = c.args in
-    omega (arith, row_room a.w a.hi (a.lo + (a.hi - a.lo) / 2) (omega arith), c.requires.0.fits)
-
-pub offset_bounds-t-mid : goal.offset_bounds-t-mid
-offset_bounds-t-mid t c =
-    let a = c.args in
-    omega (arith, row_room a.w a.hi (a.lo + (a.hi - a.lo) / 2) (omega arith), c.requires.0.fits)
-
-pub bounds-t-mid : goal.bounds-t-mid
-bounds-t-mid t c =
-    let a = c.args in
-    let r = c.requires.0 in
-    omega (arith, row_room a.w a.hi (a.lo + (a.hi - a.lo) / 2) (omega arith), r.fits, r.some)
 
 pub returns-then-z-number : goal.returns-then-z-number
 returns-then-z-number t c =
@@ -73,9 +55,6 @@ search_row-requires-2 t c =
     let a = s.args in
     let m = a.lo + (a.hi - a.lo) / 2 in
     (omega arith, (rows_first s.requires.0 m (omega arith), rw (to_z-of_z s.ranges.number) s.requires.1))
-
-pub returns-then-z-number-2 : goal.returns-then-z-number-2
-returns-then-z-number-2 t c = rw (to_z-of_z c.ranges.number) at c.search_row.ensures
 
 pub returns : goal.returns
 returns t c =

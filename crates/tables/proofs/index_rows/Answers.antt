@@ -1,32 +1,17 @@
 -- `tables::index_rows` meets its contract: row i lies in the table, the index keeps its length, and the rows that are
 -- left do the rest. Assumes nothing.
 use borrow.Author.Rules.{sfits_of}
-use Prim.Native.Nat.{ℕ, ◌+◌, ◌*◌, ◌-◌, ◌%◌, ◌≤◌}
-use mathlib.Core.Path.{◌≡◌, refl, sym, ap, ◌∙◌}
-use native.Mathlib.Nat.{sub-zero}
+use Prim.Native.Nat.{ℕ, ◌+◌, ◌*◌, ◌-◌, ◌%◌}
+use mathlib.Core.Path.{◌≡◌, sym, ap, ◌∙◌}
 use native.Mathlib.Omega.{arith}
 use lib.IntN.{pos}
-use lib.ListN.{length, get_or, set, length-set}
+use lib.ListN.{get_or, set, length-set}
 use mir.Syntax.{w64}
 use mir.Facts.{to_z-of_z}
 use Rattle.lists.specs.Tables.{sweep}
-use Rattle.lists.proofs.Scans.{sweep_step, sweep-end}
+use Rattle.lists.proofs.Scans.{sweep_step}
 use Rattle.tables.specs.Tables.{last_bits, indexed}
-use Rattle.tables.proofs.Cells.{row_room}
 use Rattle.tables.proofs.index_rows.Goals as goal
-
--- row i lies in the table
-pub overflow_mul-i : goal.overflow_mul-i
-overflow_mul-i c = let a = c.args in
-    omega (arith, row_room a.w a.count c.loop-i.i c.loop-i-test.true)
-
-pub offset_bounds-t-i : goal.offset_bounds-t-i
-offset_bounds-t-i c = let a = c.args in
-    omega (arith, row_room a.w a.count c.loop-i.i c.loop-i-test.true)
-
-pub bounds-t-i : goal.bounds-t-i
-bounds-t-i c = let a = c.args in
-    omega (arith, row_room a.w a.count c.loop-i.i c.loop-i-test.true)
 
 pub loop-i-preserved : goal.loop-i-preserved
 loop-i-preserved c =
@@ -41,18 +26,3 @@ loop-i-preserved c =
       ap (λ (k : ℕ). sweep g (set l.index k (l.i % 65536)) (l.i + 1) (a.count - (l.i + 1))) e
           ∙ sym (sweep_step g l.index l.i a.count c.loop-i-test.true) ∙ l.invariant.2,
     )
-
-pub returns : goal.returns
-returns c =
-    let l = c.loop-i in
-    let s = c in
-    let a = s.args in (
-      sym (sweep-end (indexed a.w a.t.now) l.index l.i a.count c.loop-i-test.false) ∙ l.invariant.2,
-      l.invariant.1 ∙ s.requires.2,
-    )
-
-pub loop-i-init : goal.loop-i-init
-loop-i-init c = (omega arith, refl, rw sub-zero)
-
-pub shape_of-index : goal.shape_of-index
-shape_of-index c = c.loop-i.invariant.1

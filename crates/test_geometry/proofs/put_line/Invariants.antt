@@ -2,5 +2,5 @@
 use Rattle.std.proofs.Common.{◌<◌}
 use Rattle.test_geometry.proofs.put_line.Given as goal
 
-abbrev pub invariant-loop-i : goal.invariant-loop-i
-invariant-loop-i g l = l.h < 1000003
+abbrev pub invariant-loop-z : goal.invariant-loop-z
+invariant-loop-z g l = l.h < 1000003

@@ -1,48 +1,52 @@
--- `text::count_numbers` meets its contract: n numbers are passed, and those from `at` on are still to come. Assumes
--- nothing.
-use Prim.Native.Nat.{◌≤◌, ◌-◌}
-use mathlib.Core.Path.{◌≡◌, refl, sym, ap, ◌∙◌, subst}
-use native.Mathlib.Nat.{add-zero}
-use native.Mathlib.Omega.{arith}
-use lib.ListN.{length}
-use borrow.Author.Rules.{rules}
-use Rattle.text.specs.Lines.{words, numbers_of}
-use Rattle.text.specs.Steps.{NextAs, numbers_from, parsed_of}
-use Rattle.text.specs.declared.Parsed.TheVariants.{Numbers}
-use Rattle.text.proofs.Numbers.{parsed_more}
+use Rattle.std.proofs.Common.{◌≡◌, ◌+◌, length, drop, sym, ap, ◌∙◌, arith, rules, tests, add-zero}
+use Rattle.std.specs.Prelude.{ℤ, Option, Some}
+use Rattle.std.specs.List.{filter, slice_split}
+use Rattle.std.proofs.lemmas.List.{length_push}
+use Rattle.std.proofs.lemmas.Iterator.Splits.{YieldsList-from_slice_split}
+use Rattle.std.proofs.lemmas.Iterator.Consumers.{YieldsList-from_filter, YieldsList-at, YieldsList-turn, YieldsList-end}
+use Rattle.text.specs.Lines.{blank, word_number, cons_number, words, numbers_of}
+use Rattle.text.proofs.Words.{some_bytes}
+use Rattle.text.proofs.Numbers.{counted, counted_none, counted_more, Taken, next_word, last_word}
 use Rattle.text.proofs.count_numbers.Goals as goal
+use Rattle.text.proofs.count_numbers.Goals.{In-Some, In-None}
 
-pub loop-end-init : goal.loop-end-init
-loop-end-init c = (omega arith, omega arith, refl)
+-- the loop takes the parts that are not empty, in order
+taken : (c : In-Some) → Taken (filter some_bytes (slice_split blank c.args.line.now)) (length c.loop-word.yielded) c.in-Some.word.now
+taken c =
+    YieldsList-turn (YieldsList-at c.into_iter-word-iterator.ensures.into_iter_gives (YieldsList-from_filter _ some_bytes (YieldsList-at c.filter-word-items.ensures.source (YieldsList-from_slice_split _ blank c.args.line.now c.split.ensures.rest c.split.ensures.done c.split.ensures.closure (λ x b q k. search (rules, tests)))) c.filter-word-items.ensures.closure (λ x b q k. search (rules, tests))))
+    c.loop-word.yielded _ c.loop-word.yielded_by _ _ c.in-Some.word c.in-Some.is c.next.ensures.steps
 
-pub loop-end-smaller : goal.loop-end-smaller
-loop-end-smaller c =
-    let l = c.args.line.now in
-    let next = subst (NextAs l c.loop-end.at) c.in-Number.is
-    c.read_next.ensures in
-    omega (arith, next.0, next.1)
+all_taken : (c : In-None) → length c.loop-word.yielded ≡ length (filter some_bytes (slice_split blank c.args.line.now))
+all_taken c =
+    (YieldsList-end (YieldsList-at c.into_iter-word-iterator.ensures.into_iter_gives (YieldsList-from_filter _ some_bytes (YieldsList-at c.filter-word-items.ensures.source (YieldsList-from_slice_split _ blank c.args.line.now c.split.ensures.rest c.split.ensures.done c.split.ensures.closure (λ x b q k. search (rules, tests)))) c.filter-word-items.ensures.closure (λ x b q k. search (rules, tests))))
+    c.loop-word.yielded _ c.loop-word.yielded_by _ _ c.in-None.is c.next.ensures.steps).1
 
-pub loop-end-preserved : goal.loop-end-preserved
-loop-end-preserved c =
-    let l = c.args.line.now in
-    let i = c.loop-end in
-    let next = subst (NextAs l i.at) c.in-Number.is c.read_next.ensures in (
-      omega (arith, next.0),
-      next.1,
-      i.invariant.2 ∙ parsed_more c.in-Number.field-0 i.n (numbers_from l i.at)
-          (numbers_from l c.in-Number.end) next.2,
+pub returns-in_err-number_of : goal.returns-in_err-number_of
+returns-in_err-number_of c =
+    let line = c.args.line.now in
+    let i = c.loop-word in
+    let next = next_word line _ i.n c.in-Some.word.now i.invariant.0 (taken (goal.at.returns-in_err-number_of c).In-Some) in
+    let none : word_number c.in-Some.word.now ≡ _ = sym c.number_of.ensures ∙ c.in_err-number_of.was in
+    c.from_residual.ensures
+    ∙ sym (counted_none (numbers_of (words line)) ∙ i.invariant.1
+    ∙ ap (counted i.n) (next.1
+    ∙ ap (λ (o : Option ℤ). cons_number o (numbers_of (drop (i.n + 1) (words line)))) none))
+
+pub loop-word-preserved : goal.loop-word-preserved
+loop-word-preserved c =
+    let line = c.args.line.now in
+    let i = c.loop-word in
+    let next = next_word line _ i.n c.in-Some.word.now i.invariant.0 (taken (goal.at.loop-word-preserved c).In-Some) in
+    let z = c.in_ok-number_of.field-0 in
+    let some : word_number c.in-Some.word.now ≡ _ = sym c.number_of.ensures ∙ c.in_ok-number_of.was in
+    let os = numbers_of (drop (i.n + 1) (words line)) in (
+      omega (arith, length_push i.yielded c.in-Some.word, i.invariant.0),
+      i.invariant.1 ∙ ap (counted i.n) (next.1 ∙ ap (λ (o : Option ℤ). cons_number o os) some) ∙ counted_more i.n z os,
     )
 
-pub returns-in-End : goal.returns-in-End
-returns-in-End c =
-    let l = c.args.line.now in
-    let i = c.loop-end in
-    let next = subst (NextAs l i.at) c.in-End.is c.read_next.ensures in
-    sym (i.invariant.2 ∙ ap (parsed_of i.n) next ∙ ap Numbers (add-zero i.n))
-
-pub returns-in-Wrong : goal.returns-in-Wrong
-returns-in-Wrong c =
-    let l = c.args.line.now in
-    let i = c.loop-end in
-    let next = subst (NextAs l i.at) c.in-Wrong.is c.read_next.ensures in
-    sym (i.invariant.2 ∙ ap (parsed_of i.n) next)
+pub returns : goal.returns
+returns c =
+    let line = c.args.line.now in
+    let i = c.loop-word in
+    sym (counted_none (numbers_of (words line)) ∙ i.invariant.1
+    ∙ ap (counted i.n) (last_word line _ i.n i.invariant.0 (all_taken (goal.at.returns c).In-None)) ∙ ap Some (add-zero i.n))
