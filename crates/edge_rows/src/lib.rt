@@ -11,6 +11,7 @@ ghost use Rattle.links.specs.Linking.{unlinked_edge};
 ghost use Rattle.edge_rows.specs.Holds.{new_row, Drawable, Drawn};
 ghost use Rattle.edge_rows.specs.Holds.{isolated_without, faced_if, Undrawable, Undrawn};
 
+use lent_rows::Edges;
 use map::Head;
 use map_rows::Incidence;
 
@@ -74,14 +75,14 @@ pub fn draw(
 // ---- an edge undrawn
 
 // No edge ends at the node but that of row i.
-fn is_isolated_without(edges: &[i64], count: usize, i: usize, node: i64) -> bool
-    requires { EdgeRows edges.now count × (i < count) }
-    ensures { result ≡ isolated_without edges.now count i node }
+fn is_isolated_without(edges: Edges<'_>, i: usize, node: i64) -> bool
+    requires { i < edges.count }
+    ensures { result ≡ isolated_without edges.entry.rows.now edges.entry.count i node }
 {
-    let u = edges[i * map::EDGE_WIDTH + map::START];
-    let v = edges[i * map::EDGE_WIDTH + map::END];
+    let u = edges.rows[i * map::EDGE_WIDTH + map::START];
+    let v = edges.rows[i * map::EDGE_WIDTH + map::END];
     let own = (u == node) as usize + (v == node) as usize;
-    links::edge_ends(edges, count, node) == own
+    links::edge_ends(edges, node) == own
 }
 
 // Edge row i unlinked and closed up: whether its two ends are isolated now.
@@ -92,8 +93,9 @@ fn undraw_edge(edges: &mut [i64], count: usize, i: usize, u: i64, v: i64) -> (bo
         × (result.1 ≡ isolated_without (unlinked_edge edges.old count i) count i v) }
 {
     links::unlink_edge(edges, count, i);
-    let start = is_isolated_without(edges, count, i, u);
-    let end = is_isolated_without(edges, count, i, v);
+    let unlinked = Edges { rows: edges, count };
+    let start = is_isolated_without(unlinked, i, u);
+    let end = is_isolated_without(unlinked, i, v);
     tables::remove_row(edges, map::EDGE_WIDTH, count, i);
     (start, end)
 }

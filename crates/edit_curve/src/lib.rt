@@ -13,11 +13,13 @@ ghost use Rattle.map.specs.Reasons.{first_reason, change_geom_reasons};
 ghost use Rattle.map.specs.Refusals.{refusal_of};
 ghost use Rattle.map.specs.Tickets.{ChangeEdgeGeom};
 ghost use Rattle.map.specs.Loans.{lent_now};
-ghost use Rattle.map_rows.specs.Rows.{node_map, edge_at, EdgeRow, NodeRows, EdgeRows};
+ghost use Rattle.map_rows.specs.Rows.{edge_at, EdgeRow};
+ghost use Rattle.lent_rows.specs.Lent.{placed};
 ghost use Rattle.outcomes.specs.Outcomes.{Formed, edited, done_of, outcome_now};
 ghost use Rattle.edge_rows.specs.Holds.{NodeEdgeTables};
 ghost use Rattle.edit_curve.specs.Change.{taken_at, turn_reasons, change_reasons, changed_along, EndsAt};
 
+use lent_rows::{Edges, Nodes};
 use map::{Head, Refusal};
 use map_rows::Incidence;
 use outcomes::Carried;
@@ -43,31 +45,26 @@ fn end_of(edges: &[i64], i: usize) -> i64
 // ---- the reasons
 
 // A curve for the edge of row i leaves a node in the direction of another edge.
-fn direction_is_taken(edges: &[i64], count: usize, i: usize, c: &[i64]) -> bool
-    requires { EdgeRows edges.now count × (i < count) × Run c.now }
-    ensures { result ≡ taken_at edges.now count i c.now }
+fn direction_is_taken(edges: Edges<'_>, i: usize, c: &[i64]) -> bool
+    requires { (i < edges.count) × Run c.now }
+    ensures { result ≡ taken_at edges.entry.rows.now edges.entry.count i c.now }
 {
-    reason_departures::direction_taken(edges, count, i, start_of(edges, i), end_of(edges, i), c)
+    let u = start_of(edges.rows, i);
+    let v = end_of(edges.rows, i);
+    reason_departures::direction_taken(edges, i, u, v, c)
 }
 
 // 11, 14, 23, 15, 24 and 19, against a curve for the edge of row i.
-fn check_turns(
-    nodes: &[i64],
-    n: usize,
-    edges: &[i64],
-    count: usize,
-    i: usize,
-    c: &[i64],
-) -> Result<(), Refusal>
-    requires { NodeRows nodes.now n × EdgeRows edges.now count × (count ≤ 2000) × (i < count) × Run c.now }
-    ensures { refusal_of result ≡ first_reason (turn_reasons nodes.now n edges.now count i
-        c.now) }
+fn check_turns(nodes: Nodes<'_>, edges: Edges<'_>, i: usize, c: &[i64]) -> Result<(), Refusal>
+    requires { (edges.count ≤ 2000) × (i < edges.count) × Run c.now }
+    ensures { refusal_of result ≡ first_reason (turn_reasons nodes.entry.rows.now nodes.entry.count
+        edges.entry.rows.now edges.entry.count i c.now) }
 {
-    if direction_is_taken(edges, count, i, c) {
+    if direction_is_taken(edges, i, c) {
         return Err(Refusal::DirectionTaken);
     }
-    reason_curves::check_meeting(nodes, n, edges, count, i, c)?;
-    if reason_departures::order_changes(edges, count, i, c) {
+    reason_curves::check_meeting(nodes, edges, i, c)?;
+    if reason_departures::order_changes(edges, i, c) {
         return Err(Refusal::OrderChanges);
     }
     Ok(())
@@ -91,7 +88,15 @@ fn check_change(
     reason_curves::check_curve(nodes, u, v, c)?;
     let n = head::to_usize(h.nodes);
     let e = head::to_usize(h.edges);
-    check_turns(nodes, n, edges, e, i, c)
+    let placed = Nodes {
+        rows: nodes,
+        count: n,
+    };
+    let drawn = Edges {
+        rows: edges,
+        count: e,
+    };
+    check_turns(placed, drawn, i, c)
 }
 
 // From 7 on, against a curve for the edge of row i, between the nodes of rows u and v.
@@ -193,12 +198,11 @@ fn change_between(
 // ---- rows looked up
 
 // The row of a node that is there.
-fn row_of(nodes: &[i64], count: usize, node: i64) -> usize
-    requires { NodeRows nodes.now count × (non_neg node ≡ true)
-        × (has_node (node_map nodes.now count) (nat_abs node) ≡ true) }
-    ensures { place (same_z node) 0 (column 4 nodes.now count) ≡ Some result }
+fn row_of(nodes: Nodes<'_>, node: i64) -> usize
+    requires { (non_neg node ≡ true) × (has_node (placed nodes) (nat_abs node) ≡ true) }
+    ensures { place (same_z node) 0 (column 4 nodes.entry.rows.now nodes.entry.count) ≡ Some result }
 {
-    tables::find_row(nodes, map::NODE_WIDTH, count, node).unwrap_or(0)
+    tables::find_row(nodes.rows, map::NODE_WIDTH, nodes.count, node).unwrap_or(0)
 }
 
 // Kind 6 on the edge of row i.
@@ -216,8 +220,12 @@ fn change_at_row(
         (ChangeEdgeGeom (pos (edge_at edges.old i).number) sent.now) }
 {
     let n = head::to_usize(h.nodes);
-    let u = row_of(nodes, n, start_of(edges, i));
-    let v = row_of(nodes, n, end_of(edges, i));
+    let placed = Nodes {
+        rows: nodes,
+        count: n,
+    };
+    let u = row_of(placed, start_of(edges, i));
+    let v = row_of(placed, end_of(edges, i));
     change_between(nodes, edges, faces, h, i, u, v, sent)
 }
 

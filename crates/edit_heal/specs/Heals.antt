@@ -18,6 +18,8 @@ use Rattle.map.specs.Rows.{dart_cell, counts}
 use Rattle.map.specs.Edits.{is_new, is_mod, joint, parts}
 use Rattle.map.specs.Reasons.{Reasons}
 use Rattle.map_rows.specs.Rows.{edge_at, edge_map, NodeRows, EdgeRows}
+use Rattle.lent_rows.specs.declared.Edges.{Edges}
+use Rattle.lent_rows.specs.Lent.{drawn}
 use Rattle.map_rows.specs.declared.Incidence.{Incidence}
 use Rattle.map_rows.specs.Cells.{cells_of}
 use Rattle.head.specs.Heads.{Counted, changed_head, spent_at}
@@ -39,13 +41,12 @@ dart_leaving l j node = dart_with l j 1 node
 abbrev pub dart_arriving : List ℤ → ℕ → ℤ → ℕ
 dart_arriving l j node = dart_with l j 2 node
 
--- rows i and j of n, with a joint
-pub record JointRows (l : List ℤ) (n i j : ℕ) : Type 0 where
-  pub rows : EdgeRows l n
-  pub few : n ≤ max_edges
-  pub first_row : i < n
-  pub second_row : j < n
-  pub joint : is_some (joint (edge_map l n) (edge_at l i).number (edge_at l j).number) ≡ true
+-- rows i and j of those in use, with a joint
+pub record JointRows (e : Edges) (i j : ℕ) : Type 0 where
+  pub few : e.count ≤ max_edges
+  pub first_row : i < e.count
+  pub second_row : j < e.count
+  pub joint : is_some (joint (drawn e) (edge_at e.rows.now i).number (edge_at e.rows.now j).number) ≡ true
 
 -- s are the parts of the heal of rows i and j, and their joint
 pub record PartsOf (l : List ℤ) (n i j : ℕ) (s : Parts) : Type 0 where

@@ -22,6 +22,7 @@ ghost use Rattle.edit_heal.specs.Heals.{healed_written, HealableRows, healed_row
 ghost use Rattle.edit_heal.specs.Heals.{heal_numbers, HealableEdges, HealedTables};
 
 use curve_edits::Line;
+use lent_rows::Edges;
 use map::{Counts, Head, Refusal, Variant};
 use map_rows::Incidence;
 use outcomes::Carried;
@@ -49,21 +50,21 @@ fn dart_with(edges: &[i64], j: usize, k: usize, node: i64) -> usize
 }
 
 // The two directed edges that are joined, in the direction of edge row i.
-fn parts_of(edges: &[i64], e: usize, i: usize, j: usize) -> Parts
-    requires { JointRows edges.now e i j }
-    ensures { PartsOf edges.now e i j result }
+fn parts_of(edges: Edges<'_>, i: usize, j: usize) -> Parts
+    requires { JointRows edges i j }
+    ensures { PartsOf edges.entry.rows.now edges.entry.count i j result }
 {
-    let u = edges[i * map::EDGE_WIDTH + map::START];
-    let v = edges[i * map::EDGE_WIDTH + map::END];
-    if reason_departures::joins_at(edges, e, j, v) {
+    let u = edges.rows[i * map::EDGE_WIDTH + map::START];
+    let v = edges.rows[i * map::EDGE_WIDTH + map::END];
+    if reason_departures::joins_at(edges, j, v) {
         return Parts {
             first: i * 2,
-            second: dart_with(edges, j, map::START, v),
+            second: dart_with(edges.rows, j, map::START, v),
             joint: v,
         };
     }
     Parts {
-        first: dart_with(edges, j, map::END, u),
+        first: dart_with(edges.rows, j, map::END, u),
         second: i * 2,
         joint: u,
     }
@@ -276,8 +277,12 @@ fn heal_at_rows(
         (heal_ticket how (pos (edge_at edges.old i).number) (pos (edge_at edges.old j).number)) }
 {
     let e = head::to_usize(h.edges);
-    reason_departures::check_joint(edges, e, i, j)?;
-    let s = parts_of(edges, e, i, j);
+    let drawn = Edges {
+        rows: edges,
+        count: e,
+    };
+    reason_departures::check_joint(drawn, i, j)?;
+    let s = parts_of(drawn, i, j);
     let l = joined_line(edges, s.first, s.second);
     check_late(l.count, h, how)?;
     Ok(carry_out(nodes, edges, h, how, i, j, s, l))

@@ -15,6 +15,7 @@ ghost use Rattle.outcomes.specs.Outcomes.{Formed, edited, done_of, outcome_now};
 ghost use Rattle.edge_rows.specs.Holds.{NodeEdgeTables};
 ghost use Rattle.edit_isolated.specs.Isolated.{meeting_or_room_reasons, isolated_reasons, isolated_along};
 
+use lent_rows::{Edges, Nodes};
 use map::{Head, Refusal};
 use outcomes::Carried;
 
@@ -59,9 +60,15 @@ fn check_meeting_or_room(
     ensures { refusal_of result ≡ first_reason
         (meeting_or_room_reasons nodes.now edges.now faces.now h c.now) }
 {
-    let n = head::to_usize(h.nodes);
-    let e = head::to_usize(h.edges);
-    reason_curves::check_meeting(nodes, n, edges, e, e, c)?;
+    let placed = Nodes {
+        rows: nodes,
+        count: head::to_usize(h.nodes),
+    };
+    let drawn = Edges {
+        rows: edges,
+        count: head::to_usize(h.edges),
+    };
+    reason_curves::check_meeting(placed, drawn, drawn.count, c)?;
     head::check_room(
         head::sizes_of(nodes, edges, faces),
         h,
@@ -184,8 +191,11 @@ fn remove_at_row(
         ≡ edited (lent_now nodes.old edges.old faces.now h)
         (RemoveIsoEdge (pos (edge_at edges.old i).number)) }
 {
-    let e = head::to_usize(h.edges);
-    if !reason_departures::edge_isolated(edges, e, i) {
+    let drawn = Edges {
+        rows: edges,
+        count: head::to_usize(h.edges),
+    };
+    if !reason_departures::edge_isolated(drawn, i) {
         return Err(Refusal::NotIsolated);
     }
     let face = left_face(edges, i);

@@ -5,7 +5,6 @@ ghost use Rattle.std.specs.Prelude.{◌≡◌, true, not, ◌&&◌, ◌||◌, []
 ghost use Rattle.std.proofs.Math.Seq.{paste};
 ghost use Rattle.std.specs.Int.Signed.{non_neg};
 ghost use Rattle.lists.specs.Tests.{same};
-ghost use Rattle.lists.specs.Scans.{any_of};
 ghost use Rattle.plane.specs.Points.{InRange};
 ghost use Rattle.map.specs.Limits.{node_width};
 ghost use Rattle.map.specs.Rows.{map_of, counts};
@@ -13,11 +12,12 @@ ghost use Rattle.map.specs.Tickets.{AddIsoNode, MoveIsoNode, RemoveIsoNode};
 ghost use Rattle.map.specs.Reasons.{first_reason, minus_one};
 ghost use Rattle.map.specs.Refusals.{refusal_of};
 ghost use Rattle.map.specs.Loans.{lent_now};
-ghost use Rattle.map_rows.specs.Rows.{FaceRows, NodeRows, EdgeRows, faces_of, node_at};
+ghost use Rattle.map_rows.specs.Rows.{node_at};
 ghost use Rattle.head.specs.Heads.{Counted, changed_head};
 ghost use Rattle.outcomes.specs.Outcomes.{Formed, decided, done_of, outcome_now};
 ghost use Rattle.edit_nodes.specs.Parts.{point_taken, point_reasons, add_early, move_reasons};
 
+use lent_rows::{Edges, Nodes};
 use map::{Head, Refusal};
 use outcomes::Carried;
 use plane::Point;
@@ -40,18 +40,12 @@ fn other_face(face: i64, around: i64) -> bool
 }
 
 // A node but that of row `own` lies on the point, or an edge passes through it.
-fn point_is_taken(
-    nodes: &[i64],
-    n: usize,
-    edges: &[i64],
-    count: usize,
-    own: usize,
-    p: Point,
-) -> bool
-    requires { NodeRows nodes.now n × EdgeRows edges.now count × InRange p }
-    ensures { result ≡ point_taken nodes.now n edges.now count own p }
+fn point_is_taken(nodes: Nodes<'_>, edges: Edges<'_>, own: usize, p: Point) -> bool
+    requires { InRange p }
+    ensures { result ≡ point_taken nodes.entry.rows.now nodes.entry.count edges.entry.rows.now
+        edges.entry.count own p }
 {
-    reason_curves::node_at(nodes, n, own, p) || reason_curves::edge_through(edges, count, p)
+    reason_curves::node_at(nodes, own, p) || reason_curves::edge_through(edges, p)
 }
 
 // ---- reasons
@@ -73,14 +67,15 @@ fn check_point(
         return Err(Refusal::OutOfRange);
     }
     let n = head::to_usize(h.nodes);
-    if point_is_taken(
-        nodes,
-        n,
-        edges,
-        head::to_usize(h.edges),
-        n,
-        reason_curves::point_of(x, y),
-    ) {
+    let placed = Nodes {
+        rows: nodes,
+        count: n,
+    };
+    let drawn = Edges {
+        rows: edges,
+        count: head::to_usize(h.edges),
+    };
+    if point_is_taken(placed, drawn, n, reason_curves::point_of(x, y)) {
         return Err(Refusal::PointTaken);
     }
     Ok(())
@@ -127,14 +122,15 @@ fn check_move(
     if !map_rows::is_isolated(nodes, i) {
         return Err(Refusal::NotIsolated);
     }
-    if point_is_taken(
-        nodes,
-        head::to_usize(h.nodes),
-        edges,
-        head::to_usize(h.edges),
-        i,
-        reason_curves::point_of(x, y),
-    ) {
+    let placed = Nodes {
+        rows: nodes,
+        count: head::to_usize(h.nodes),
+    };
+    let drawn = Edges {
+        rows: edges,
+        count: head::to_usize(h.edges),
+    };
+    if point_is_taken(placed, drawn, i, reason_curves::point_of(x, y)) {
         return Err(Refusal::PointTaken);
     }
     Ok(())
@@ -175,11 +171,11 @@ pub fn add_node(
         ≡ decided (lent_now nodes.old edges.now faces.now h) (AddIsoNode face x y) }
 {
     check_add(nodes, edges, faces, h, face, x, y)?;
-    let around = point_location::face_of_point(
-        edges,
-        head::to_usize(h.edges),
-        reason_curves::point_of(x, y),
-    );
+    let drawn = Edges {
+        rows: edges,
+        count: head::to_usize(h.edges),
+    };
+    let around = point_location::face_of_point(drawn, reason_curves::point_of(x, y));
     if other_face(face, around) {
         return Err(Refusal::FacesDiffer);
     }
@@ -205,11 +201,11 @@ fn move_at_row(
 {
     check_move(nodes, edges, faces, h, i, x, y)?;
     let number = nodes[i * map::NODE_WIDTH];
-    let around = point_location::face_of_point(
-        edges,
-        head::to_usize(h.edges),
-        reason_curves::point_of(x, y),
-    );
+    let drawn = Edges {
+        rows: edges,
+        count: head::to_usize(h.edges),
+    };
+    let around = point_location::face_of_point(drawn, reason_curves::point_of(x, y));
     map_rows::write_node(nodes, i, number, x, y, around);
     Ok(Carried { head: h, value: 0 })
 }

@@ -44,8 +44,7 @@ fn pair_of(edges: &[i64], count: usize, edge: i64) -> FacePair
     requires { EdgeRows edges.now count }
     ensures { result ≡ pair_named edges.now count edge }
 {
-    let found = tables::find_row(edges, map::EDGE_WIDTH, count, edge);
-    let Some(i) = found else {
+    let Some(i) = tables::find_row(edges, map::EDGE_WIDTH, count, edge) else {
         return NO_PAIR;
     };
     pair_at(edges, i)

@@ -13,7 +13,7 @@ ghost use Rattle.map.specs.Rows.{counts};
 ghost use Rattle.map.specs.Reasons.{first_reason};
 ghost use Rattle.map.specs.Refusals.{refusal_of};
 ghost use Rattle.map.specs.Loans.{lent_now};
-ghost use Rattle.map_rows.specs.Rows.{EdgeRow, NodeRows, edge_at};
+ghost use Rattle.map_rows.specs.Rows.{EdgeRow, edge_at};
 ghost use Rattle.map_rows.specs.Cells.{cells_of};
 ghost use Rattle.head.specs.Heads.{Counted, changed_head, sizes_in, room_at};
 ghost use Rattle.outcomes.specs.Outcomes.{Formed, edited, done_of, outcome_now};
@@ -22,6 +22,7 @@ ghost use Rattle.edit_split.specs.Cuts.{led_to_halves, start_incidence, end_inci
 ghost use Rattle.edit_split.specs.Cuts.{CuttableEdge, CuttableRow, point_reasons, split_numbers, end_number};
 
 use curve_edits::Line;
+use lent_rows::Nodes;
 use map::{Counts, Head, Refusal, Variant};
 use map_rows::Incidence;
 use outcomes::Carried;
@@ -134,22 +135,16 @@ fn lies_on(edges: &[i64], i: usize, p: Point) -> bool
 }
 
 // 5, 10 and 13, against the point, of edge row i.
-fn check_point(
-    nodes: &[i64],
-    n: usize,
-    edges: &[i64],
-    i: usize,
-    x: i64,
-    y: i64,
-) -> Result<(), Refusal>
-    requires { NodeRows nodes.now n × EdgeRow edges.now i }
-    ensures { refusal_of result ≡ first_reason (point_reasons nodes.now n edges.now i x y) }
+fn check_point(nodes: Nodes<'_>, edges: &[i64], i: usize, x: i64, y: i64) -> Result<(), Refusal>
+    requires { EdgeRow edges.now i }
+    ensures { refusal_of result ≡ first_reason (point_reasons nodes.entry.rows.now nodes.entry.count
+        edges.now i x y) }
 {
     if !reason_curves::in_range(x, y) {
         return Err(Refusal::OutOfRange);
     }
     let p = reason_curves::point_of(x, y);
-    if reason_curves::node_at(nodes, n, n, p) {
+    if reason_curves::node_at(nodes, nodes.count, p) {
         return Err(Refusal::PointTaken);
     }
     if !lies_on(edges, i, p) {
@@ -188,7 +183,11 @@ fn check_split(
         ++ room_at (sizes_in nodes.now edges.now faces.now) h (counts 1 1 0)
         (split_numbers how)) }
 {
-    check_point(nodes, head::to_usize(h.nodes), edges, i, x, y)?;
+    let placed = Nodes {
+        rows: nodes,
+        count: head::to_usize(h.nodes),
+    };
+    check_point(placed, edges, i, x, y)?;
     head::check_room(
         head::sizes_of(nodes, edges, faces),
         h,

@@ -14,7 +14,7 @@ use outcomes::{Carried, Done};
 // ---- the empty map
 
 // The reasons against creation: 1 where the tables are not whole, 2 for a number of points that is no record.
-fn check_create(nodes: &[i64], edges: &[i64], faces: &[i64], points: i64) -> Result<(), Refusal>
+pub fn check_create(nodes: &[i64], edges: &[i64], faces: &[i64], points: i64) -> Result<(), Refusal>
     ensures { (h : _) → refusal_of result
         ≡ first_reason (create_reasons (lent_now nodes.now edges.now faces.now h) points) }
 {

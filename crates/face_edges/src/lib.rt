@@ -6,69 +6,70 @@ ghost use Rattle.map.specs.Limits.{last_number};
 ghost use Rattle.map.specs.Refusals.{answer_of};
 ghost use Rattle.map.specs.Ticket.{face_edges, edges_of_face};
 ghost use Rattle.map.specs.Loans.{lent_now};
-ghost use Rattle.map_rows.specs.Rows.{edge_map};
+ghost use Rattle.lent_rows.specs.Lent.{drawn};
 ghost use Rattle.face_edges.specs.Listing.{Rings, Marked, Size, list_rings};
 
+use lent_rows::Edges;
 use map::{Head, Refusal};
 
 // How many numbers the ring of p takes, where p is the first member of a ring of the face, and 0 elsewhere; the ring is
 // marked.
-fn ring_size(edges: &[i64], count: usize, face: usize, p: usize, marks: &mut [u16]) -> usize
-    requires { Rings edges.now count × (face ≤ last_number) × (p < count * 2)
-        × Marked edges.now count face p marks.old }
-    ensures { Marked edges.now count face (p + 1) marks.new
-        × Size edges.now count face p result }
+fn ring_size(edges: Edges<'_>, face: usize, p: usize, marks: &mut [u16]) -> usize
+    requires { Rings edges.rows.now edges.count × (face ≤ last_number) × (p < edges.count * 2)
+        × Marked edges.rows.now edges.count face p marks.old }
+    ensures { Marked edges.entry.rows.now edges.entry.count face (p + 1) marks.new
+        × Size edges.entry.rows.now edges.entry.count face p result }
 {
-    if (darts::dart_cell(edges, p, map::LEFT) == face as i64) & (marks[p] == 0) {
-        return rings::mark_ring(edges, count, p, 1, marks) + 1;
+    if (darts::dart_cell(edges.rows, p, map::LEFT) == face as i64) & (marks[p] == 0) {
+        return rings::mark_ring(edges, p, 1, marks) + 1;
     }
     0
 }
 
 // How many numbers the rings of the face take.
-fn rings_size(edges: &[i64], count: usize, face: usize) -> usize
-    requires { Rings edges.now count × (face ≤ last_number) }
-    ensures { (result ≡ length (face_edges (edge_map edges.now count) face)) × (result ≤ 20000000) }
+fn rings_size(edges: Edges<'_>, face: usize) -> usize
+    requires { Rings edges.rows.now edges.count × (face ≤ last_number) }
+    ensures { (result ≡ length (face_edges (drawn edges.entry) face)) × (result ≤ 20000000) }
 {
     let mut marks = [0u16; map::DARTS];
     let mut size: usize = 0;
-    for p in 0..count * 2 {
-        size += ring_size(edges, count, face, p, &mut marks);
+    for p in 0..edges.count * 2 {
+        size += ring_size(edges, face, p, &mut marks);
     }
     size
 }
 
 // Writes the rings of the face from the front of the list.
-fn write_rings(edges: &[i64], count: usize, face: usize, list: &mut [i64])
-    requires { Rings edges.now count × (face ≤ last_number)
-        × (length (face_edges (edge_map edges.now count) face) ≤ length list.old) }
+fn write_rings(edges: Edges<'_>, face: usize, list: &mut [i64])
+    requires { Rings edges.rows.now edges.count × (face ≤ last_number)
+        × (length (face_edges (drawn edges) face) ≤ length list.old) }
     ensures { list.new
-        ≡ face_edges (edge_map edges.now count) face
-        ++ drop (length (face_edges (edge_map edges.now count) face)) list.old }
+        ≡ face_edges (drawn edges.entry) face
+        ++ drop (length (face_edges (drawn edges.entry) face)) list.old }
 {
     let mut marks = [0u16; map::DARTS];
     let mut at: usize = 0;
-    for p in 0..count * 2 {
-        let n = ring_size(edges, count, face, p, &mut marks);
+    for p in 0..edges.count * 2 {
+        let n = ring_size(edges, face, p, &mut marks);
         if 0 < n {
             list[at] = (n - 1) as i64;
-            rings::write_ring(edges, count, p, n - 1, list, at + 1);
+            rings::write_ring(edges, p, n - 1, list, at + 1);
             at += n;
         }
     }
 }
 
 // Lists the rings of the face from the front of the list, where there is room for them.
-fn list_rings(edges: &[i64], count: usize, face: usize, list: &mut [i64]) -> Result<i64, Refusal>
-    requires { Rings edges.now count × (face ≤ last_number) }
+fn list_rings(edges: Edges<'_>, face: usize, list: &mut [i64]) -> Result<i64, Refusal>
+    requires { Rings edges.rows.now edges.count × (face ≤ last_number) }
     ensures { record { list = list.new; answer = answer_of result }
-        ≡ list_rings edges.now count face list.old }
+        ≡ list_rings edges.entry.rows.now edges.entry.count face list.old }
 {
-    let size = rings_size(edges, count, face);
+    let size = rings_size(edges, face);
     if list.len() < size {
         return Err(Refusal::NoRoom);
     }
-    write_rings(edges, count, face, list);
+    write_rings(edges, face, list);
     Ok(size as i64)
 }
 
@@ -91,5 +92,9 @@ pub fn edges_of_face(
     let Some(_) = tables::find_row(faces, map::FACE_WIDTH, c.faces, face) else {
         return Err(Refusal::NoSuchRow);
     };
-    list_rings(edges, c.edges, face as usize, list)
+    let drawn = Edges {
+        rows: edges,
+        count: c.edges,
+    };
+    list_rings(drawn, face as usize, list)
 }

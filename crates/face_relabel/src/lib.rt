@@ -7,11 +7,12 @@ ghost use Rattle.lists.specs.Tables.{sweep};
 ghost use Rattle.tables.specs.Tables.{replace_at};
 ghost use Rattle.plane.specs.Points.{InRange};
 ghost use Rattle.map.specs.Limits.{node_width, edge_width, max_edges};
-ghost use Rattle.map_rows.specs.Rows.{EdgeRows, edge_at};
+ghost use Rattle.map_rows.specs.Rows.{edge_at};
 ghost use Rattle.darts.specs.Positions.{side_cell};
 ghost use Rattle.face_relabel.specs.Sharing.{Ringed, ShareableFace, Whole, ring_encloses, start_of};
 ghost use Rattle.face_relabel.specs.Sharing.{ring_mark, side_shared, node_shared, edge_shared};
 
+use lent_rows::{Edges, Nodes};
 use plane::Point;
 
 // A face to share out: its number, a directed edge on the reference side and its ring's numbers for the two sides.
@@ -45,11 +46,12 @@ fn mark_of(is_inside: bool) -> u16
 }
 
 // The number of the side of a point.
-fn side_of(edges: &[i64], count: usize, s: Sides, q: Point) -> i64
-    requires { EdgeRows edges.now count × (count ≤ max_edges) × (s.ring < count * 2) × InRange q }
-    ensures { result ≡ cond (ring_encloses edges.now count s.ring q) s.inside s.other }
+fn side_of(edges: Edges<'_>, s: Sides, q: Point) -> i64
+    requires { (edges.count ≤ max_edges) × (s.ring < edges.count * 2) × InRange q }
+    ensures { result
+        ≡ cond (ring_encloses edges.entry.rows.now edges.entry.count s.ring q) s.inside s.other }
 {
-    s.number(rings::encloses(edges, count, s.ring, q))
+    s.number(rings::encloses(edges, s.ring, q))
 }
 
 // Shares out the isolated nodes of the old face: each gets the number of its side.
@@ -58,41 +60,43 @@ pub fn share_nodes(nodes: &mut [i64], n: usize, edges: &[i64], count: usize, s: 
     ensures { nodes.new
         ≡ sweep (node_shared nodes.old n edges.now count s) nodes.old 0 n }
 {
+    let drawn = Edges { rows: edges, count };
     for i in 0..n {
         if nodes[i * map::NODE_WIDTH + map::NODE_FACE] == s.old {
-            let side = side_of(edges, count, s, map_rows::node_point(nodes, i));
+            let side = side_of(drawn, s, map_rows::node_point(nodes, i));
             nodes[i * map::NODE_WIDTH + map::NODE_FACE] = side;
         }
     }
 }
 
 // Whether a ring whose lowest edge is row i lies on the reference side, by the start node of that edge.
-fn is_inside(nodes: &[i64], n: usize, edges: &[i64], count: usize, s: Sides, i: usize) -> bool
-    requires { ShareableFace nodes.now n edges.now count s × (i < count) }
-    ensures { result ≡ ring_encloses edges.now count s.ring
-        (start_of nodes.now n (edge_at edges.now i)) }
+fn is_inside(nodes: Nodes<'_>, edges: Edges<'_>, s: Sides, i: usize) -> bool
+    requires { ShareableFace nodes.rows.now nodes.count edges.rows.now edges.count s × (i < edges.count) }
+    ensures { result ≡ ring_encloses edges.entry.rows.now edges.entry.count s.ring
+        (start_of nodes.entry.rows.now nodes.entry.count (edge_at edges.entry.rows.now i)) }
 {
-    let start = edges[i * map::EDGE_WIDTH + map::START];
-    let Some(k) = tables::find_row(nodes, map::NODE_WIDTH, n, start) else {
+    let start = edges.rows[i * map::EDGE_WIDTH + map::START];
+    let Some(k) = tables::find_row(nodes.rows, map::NODE_WIDTH, nodes.count, start) else {
         return false;
     };
-    rings::encloses(edges, count, s.ring, map_rows::node_point(nodes, k))
+    rings::encloses(edges, s.ring, map_rows::node_point(nodes.rows, k))
 }
 
 // Marks the rings of the old face that are not marked by their sides.
-fn mark_sides(nodes: &[i64], n: usize, edges: &[i64], count: usize, s: Sides, marks: &mut [u16])
-    requires { ShareableFace nodes.now n edges.now count s × Ringed edges.now count
-        × Whole edges.now count marks.old }
+fn mark_sides(nodes: Nodes<'_>, edges: Edges<'_>, s: Sides, marks: &mut [u16])
+    requires { ShareableFace nodes.rows.now nodes.count edges.rows.now edges.count s
+        × Ringed edges.rows.now edges.count × Whole edges.rows.now edges.count marks.old }
     ensures { (length marks.new ≡ length marks.old)
-        × ((q : ℕ) → q < count * 2 → side_cell edges.now q 5 ≡ s.old
+        × ((q : ℕ) → q < edges.entry.count * 2 → side_cell edges.entry.rows.now q 5 ≡ s.old
         → get_or marks.new q 0
         ≡ cond (same (get_or marks.old q 0) 0)
-        (ring_mark nodes.now n edges.now count s.ring q) (get_or marks.old q 0)) }
+        (ring_mark nodes.entry.rows.now nodes.entry.count edges.entry.rows.now edges.entry.count s.ring q)
+        (get_or marks.old q 0)) }
 {
-    for p in 0..count * 2 {
-        if (darts::dart_cell(edges, p, map::LEFT) == s.old) & (marks[p] == 0) {
-            let mark = mark_of(is_inside(nodes, n, edges, count, s, p / 2));
-            rings::mark_ring(edges, count, p, mark, marks);
+    for p in 0..edges.count * 2 {
+        if (darts::dart_cell(edges.rows, p, map::LEFT) == s.old) & (marks[p] == 0) {
+            let mark = mark_of(is_inside(nodes, edges, s, p / 2));
+            rings::mark_ring(edges, p, mark, marks);
         }
     }
 }
@@ -123,10 +127,15 @@ pub fn share_edges(
         ≡ sweep (edge_shared nodes.now n edges.old count s across)
         edges.old 0 (count * 2) }
 {
+    let placed = Nodes {
+        rows: nodes,
+        count: n,
+    };
+    let drawn = Edges { rows: edges, count };
     let mut marks = [0u16; map::DARTS];
-    rings::mark_ring(edges, count, across, OTHER, &mut marks);
-    rings::mark_ring(edges, count, s.ring, INSIDE, &mut marks);
-    mark_sides(nodes, n, edges, count, s, &mut marks);
+    rings::mark_ring(drawn, across, OTHER, &mut marks);
+    rings::mark_ring(drawn, s.ring, INSIDE, &mut marks);
+    mark_sides(placed, drawn, s, &mut marks);
     write_sides(edges, count, s, &marks);
 }
 

@@ -7,7 +7,7 @@ use Prim.Native.Nat.{ℕ, min}
 use native.Mathlib.Nat.{min_comm, min-eq_left}
 use native.Mathlib.Omega.{arith}
 use lib.Dec.{ltb}
-use lib.IntN.{ℤ, pos, nat_abs}
+use lib.IntN.{ℤ, pos}
 use lib.Signed.{lt_z}
 use mir.Syntax.{w64}
 use mir.Val.{of_z, to_z, SFits}

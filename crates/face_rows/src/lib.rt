@@ -15,7 +15,8 @@ ghost use Rattle.map.specs.Darts.{ring};
 ghost use Rattle.map.specs.Faces.{ring_area};
 ghost use Rattle.map.specs.Edits.{is_new, shared_out, split_face, renamed_faces};
 ghost use Rattle.map.specs.Loans.{lent_now};
-ghost use Rattle.map_rows.specs.Rows.{NodeRows, EdgeRows, nodes_of, edges_of, faces_of, faces_in, edge_at, edge_map};
+ghost use Rattle.map_rows.specs.Rows.{NodeRows, EdgeRows, nodes_of, edges_of, faces_of, faces_in, edge_at};
+ghost use Rattle.lent_rows.specs.Lent.{drawn};
 ghost use Rattle.head.specs.Heads.{Counted, changed_head};
 ghost use Rattle.darts.specs.Positions.{dart_at};
 ghost use Rattle.face_relabel.specs.Sharing.{ShareableFace, Ringed};
@@ -24,6 +25,7 @@ ghost use Rattle.face_rows.specs.Holds.{RowsHealable, Splittable, Healable, Tabl
 ghost use Rattle.face_rows.specs.Holds.{split_faces, heal_faces, sides_alone, face_kept, merged_sides};
 
 use face_relabel::Sides;
+use lent_rows::Edges;
 use map::{Counts, Head, Variant};
 use outcomes::Carried;
 
@@ -128,16 +130,16 @@ fn heal_row(faces: &mut [i64], count: usize, left: i64, right: i64, face: i64, m
 // ---- kinds 11 and 12: a face split
 
 // The sides of the last edge: the reference side is left if the left ring's doubled area is positive, else right.
-fn sides_of(edges: &[i64], count: usize, old: i64, a: i64, goes: bool) -> Sides
-    requires { EdgeRows edges.now count × (1 ≤ count) × (count ≤ max_edges) × (a ≡ pos (nat_abs a))
+fn sides_of(edges: Edges<'_>, old: i64, a: i64, goes: bool) -> Sides
+    requires { (1 ≤ edges.count) × (edges.count ≤ max_edges) × (a ≡ pos (nat_abs a))
         × (nat_abs a ≤ suc last_number) }
     ensures { result ≡ sides_of (is_positive
-        (sgn (ring_area (edge_map edges.now count)
-        (ring (edge_map edges.now count) (dart_at edges.now ((count - 1) * 2)))))) goes
-        ((count - 1) * 2) old a }
+        (sgn (ring_area (drawn edges.entry)
+        (ring (drawn edges.entry) (dart_at edges.entry.rows.now ((edges.entry.count - 1) * 2)))))) goes
+        ((edges.entry.count - 1) * 2) old a }
 {
-    let p = (count - 1) * 2;
-    let is_left = 0 < rings::ring_area(edges, count, p);
+    let p = (edges.count - 1) * 2;
+    let is_left = 0 < rings::ring_area(edges, p);
     let b = if goes { a + 1 } else { old };
     let (inside, other) = if is_left | !goes { (a, b) } else { (b, a) };
     Sides {
@@ -186,7 +188,11 @@ pub fn split_face(
     let n = head::counts_of(h);
     let a = h.next_face;
     let goes = face_goes(how, old);
-    let s = sides_of(edges, n.edges, old, a, goes);
+    let drawn = Edges {
+        rows: edges,
+        count: n.edges,
+    };
+    let s = sides_of(drawn, old, a, goes);
     share_rows(nodes, n.nodes, edges, n.edges, s);
     split_row(faces, n.faces, old, a, goes);
     with_face(h, goes)

@@ -74,17 +74,6 @@ fn is_coordinate(t: &[i64], k: usize) -> bool
     (0..=Map::COORDINATE).contains(&t[k])
 }
 
-fn are_coordinates(t: &[i64]) -> bool
-    ensures { result ≡ all_of coordinate t.now }
-{
-    for z in t {
-        if !(0..=Map::COORDINATE).contains(z) {
-            return false;
-        }
-    }
-    true
-}
-
 fn node_ranges(row: &[i64]) -> bool
     requires { length row.now ≡ node_width }
     ensures { result ≡ node_ranges row.now }
@@ -129,7 +118,7 @@ fn points_ranged(row: &[i64], n: usize) -> bool
         && all_of is_zero (drop (2 * n) (drop 8 row.now))) }
 {
     let end = map::POINTS_AT + 2 * n;
-    are_coordinates(&row[map::POINTS_AT..end]) & tables::rest_zero(row, end)
+    curves::are_coordinates(&row[map::POINTS_AT..end]) && tables::rest_zero(row, end)
 }
 
 // The ranges of an edge row, with 2 points or more, to the number that the head records.

@@ -18,15 +18,7 @@ ghost use Rattle.form_rectangles.specs.Merged.{box_in, settled_for, row_fits};
 
 use bounding_boxes::Extent;
 use map::Map;
-use rectangles::{BEYOND, ZEROS};
-
-// No point yet: every point is left of it and below.
-const NO_POINT: Extent = Extent {
-    left: BEYOND,
-    right: 0,
-    low: BEYOND,
-    high: 0,
-};
+use rectangles::{NO_POINT, ZEROS};
 
 // The boxes of rows a and b take in the curve of edge row i.
 fn take_curve(boxes: &mut [Extent; Map::FACES], edges: &[i64], i: usize, a: usize, b: usize)

@@ -17,6 +17,7 @@ ghost use Rattle.links.specs.Linking.{first_met, departures_of, redirected, link
 ghost use Rattle.links.specs.Linking.{unlinked_edge};
 
 use darts::Step;
+use lent_rows::Edges;
 
 // A choice among departures so far: the last counterclockwise of all, and of those before a direction.
 #[derive(Clone, Copy)]
@@ -74,8 +75,7 @@ fn chosen(edges: &[i64], own: usize, c: &[i64], h: Choice, p: usize, v: Step) ->
 // The first departure from the node met turning clockwise from v, but for the positions a and b, where edge row `own`
 // has the curve c.
 pub fn first_clockwise(
-    edges: &[i64],
-    count: usize,
+    edges: Edges<'_>,
     own: usize,
     c: &[i64],
     node: i64,
@@ -83,39 +83,39 @@ pub fn first_clockwise(
     a: usize,
     b: usize,
 ) -> Option<usize>
-    requires { EdgeRows edges.now count × (own < count → Run c.now) × StepInRange v }
-    ensures { result ≡ first_met (way_with edges.now own c.now) (way_to v.from v.to)
-        (departures_but edges.now count node a b) }
+    requires { (own < edges.count → Run c.now) × StepInRange v }
+    ensures { result ≡ first_met (way_with edges.entry.rows.now own c.now) (way_to v.from v.to)
+        (departures_but edges.entry.rows.now edges.entry.count node a b) }
 {
     let mut h = Choice {
         all: None,
         below: None,
     };
-    for i in 0..count {
+    for i in 0..edges.count {
         let p = i * 2;
-        if edges[i * map::EDGE_WIDTH + map::START] == node && p != a && p != b {
-            h = chosen(edges, own, c, h, p, v);
+        if edges.rows[i * map::EDGE_WIDTH + map::START] == node && p != a && p != b {
+            h = chosen(edges.rows, own, c, h, p, v);
         }
-        if edges[i * map::EDGE_WIDTH + map::END] == node && p + 1 != a && p + 1 != b {
-            h = chosen(edges, own, c, h, p + 1, v);
+        if edges.rows[i * map::EDGE_WIDTH + map::END] == node && p + 1 != a && p + 1 != b {
+            h = chosen(edges.rows, own, c, h, p + 1, v);
         }
     }
     h.answer()
 }
 
 // Lists the departures from the node at the front of the list; their count.
-pub fn departures_at(edges: &[i64], count: usize, node: i64, list: &mut [u16]) -> usize
-    requires { EdgeRows edges.now count × (count ≤ max_edges) × (count * 2 ≤ length list.old) }
-    ensures { (result ≡ length (departures_of edges.now count node))
-        × (list.new ≡ sets list.old 0 (departures_of edges.now count node)) }
+pub fn departures_at(edges: Edges<'_>, node: i64, list: &mut [u16]) -> usize
+    requires { (edges.count ≤ max_edges) × (edges.count * 2 ≤ length list.old) }
+    ensures { (result ≡ length (departures_of edges.entry.rows.now edges.entry.count node))
+        × (list.new ≡ sets list.old 0 (departures_of edges.entry.rows.now edges.entry.count node)) }
 {
     let mut k = 0;
-    for i in 0..count {
-        if edges[i * map::EDGE_WIDTH + map::START] == node {
+    for i in 0..edges.count {
+        if edges.rows[i * map::EDGE_WIDTH + map::START] == node {
             list[k] = (i * 2) as u16;
             k += 1;
         }
-        if edges[i * map::EDGE_WIDTH + map::END] == node {
+        if edges.rows[i * map::EDGE_WIDTH + map::END] == node {
             list[k] = (i * 2 + 1) as u16;
             k += 1;
         }
@@ -145,22 +145,22 @@ pub fn clockwise(edges: &[i64], own: usize, c: &[i64], list: &[u16], p: usize) -
 }
 
 // Whether a departure from the node, but of edge row `own`, has the direction v.
-pub fn way_taken(edges: &[i64], count: usize, node: i64, own: usize, v: Step) -> bool
-    requires { EdgeRows edges.now count × StepInRange v }
-    ensures { result ≡ any_of (λ p. leaves_node edges.now node p
+pub fn way_taken(edges: Edges<'_>, node: i64, own: usize, v: Step) -> bool
+    requires { StepInRange v }
+    ensures { result ≡ any_of (λ p. leaves_node edges.entry.rows.now node p
         && not (same (p / 2) own)
-        && same_way (way_at edges.now p) (way_to v.from v.to)) (positions count) }
+        && same_way (way_at edges.entry.rows.now p) (way_to v.from v.to)) (positions edges.entry.count) }
 {
-    for i in 0..count {
-        if edges[i * map::EDGE_WIDTH + map::START] == node
+    for i in 0..edges.count {
+        if edges.rows[i * map::EDGE_WIDTH + map::START] == node
             && i != own
-            && darts::same_way(darts::step_at(edges, i * 2), v)
+            && darts::same_way(darts::step_at(edges.rows, i * 2), v)
         {
             return true;
         }
-        if edges[i * map::EDGE_WIDTH + map::END] == node
+        if edges.rows[i * map::EDGE_WIDTH + map::END] == node
             && i != own
-            && darts::same_way(darts::step_at(edges, i * 2 + 1), v)
+            && darts::same_way(darts::step_at(edges.rows, i * 2 + 1), v)
         {
             return true;
         }
@@ -169,13 +169,13 @@ pub fn way_taken(edges: &[i64], count: usize, node: i64, own: usize, v: Step) ->
 }
 
 // How many edge ends are at the node.
-pub fn edge_ends(edges: &[i64], count: usize, node: i64) -> usize
-    requires { EdgeRows edges.now count }
-    ensures { (result ≡ count_of (leaves_node edges.now node) (positions count)) × (result ≤ count * 2) }
+pub fn edge_ends(edges: Edges<'_>, node: i64) -> usize
+    ensures { (result ≡ count_of (leaves_node edges.entry.rows.now node) (positions edges.entry.count))
+        × (result ≤ edges.entry.count * 2) }
 {
     let mut n: usize = 0;
-    for p in 0..count * 2 {
-        n += (darts::dart_cell(edges, p, map::START) == node) as usize;
+    for p in 0..edges.count * 2 {
+        n += (darts::dart_cell(edges.rows, p, map::START) == node) as usize;
     }
     n
 }
@@ -216,14 +216,14 @@ fn link_at(edges: &mut [i64], count: usize, p: usize, c: i64)
 }
 
 // The first departure met turning clockwise from the departure p, where `other` is not there yet.
-fn met(edges: &[i64], count: usize, p: usize, other: usize) -> Option<usize>
-    requires { EdgeRows edges.now count × (p < count * 2) }
-    ensures { result ≡ first_met (way_at edges.now) (way_at edges.now p)
-        (departures_but edges.now count (side_cell edges.now p 1) p other) }
+fn met(edges: Edges<'_>, p: usize, other: usize) -> Option<usize>
+    requires { p < edges.count * 2 }
+    ensures { result ≡ first_met (way_at edges.entry.rows.now) (way_at edges.entry.rows.now p)
+        (departures_but edges.entry.rows.now edges.entry.count (side_cell edges.entry.rows.now p 1) p other) }
 {
-    let node = darts::dart_cell(edges, p, map::START);
-    let v = darts::step_at(edges, p);
-    first_clockwise(edges, count, count, &edges[0..0], node, v, p, other)
+    let node = darts::dart_cell(edges.rows, p, map::START);
+    let v = darts::step_at(edges.rows, p);
+    first_clockwise(edges, edges.count, &edges.rows[0..0], node, v, p, other)
 }
 
 // Links in the new departure p, `other` not being there yet.
@@ -231,7 +231,8 @@ pub fn link_in(edges: &mut [i64], count: usize, p: usize, other: usize)
     requires { EdgeRows edges.old count × (p < count * 2) × (count ≤ max_edges + 1) }
     ensures { edges.new ≡ linked_in edges.old count p other }
 {
-    let q = met(edges, count, p, other).unwrap_or(p);
+    let drawn = Edges { rows: edges, count };
+    let q = met(drawn, p, other).unwrap_or(p);
     let c = darts::dart_at(edges, q);
     link_at(edges, count, p, c);
 }

@@ -7,10 +7,12 @@ ghost use Rattle.lists.specs.Scans.{fold};
 ghost use Rattle.plane.specs.Points.{InRange, max_coordinate};
 ghost use Rattle.curves.specs.Curves.{Run, curve_of, segments};
 ghost use Rattle.map.specs.Faces.{face_of_point};
-ghost use Rattle.map_rows.specs.Rows.{EdgeRow, EdgeRows, edge_at, edge_map};
+ghost use Rattle.map_rows.specs.Rows.{EdgeRow, edge_at};
+ghost use Rattle.lent_rows.specs.Lent.{drawn};
 ghost use Rattle.point_location.specs.Highest.{HighestFits, face_bound, floor, highest_floor, over, sided, passed};
 ghost use Rattle.point_location.specs.Highest.{rowed};
 
+use lent_rows::Edges;
 use plane::Point;
 
 // The highest segment below a point, its ends ordered by x, and the face on its upper side.
@@ -106,13 +108,13 @@ fn floor_over(h: Option<Highest>, p: Point, edges: &[i64], i: usize) -> Option<H
 }
 
 // The face of a point on no node or edge.
-pub fn face_of_point(edges: &[i64], count: usize, p: Point) -> i64
-    requires { EdgeRows edges.now count × InRange p }
-    ensures { result ≡ pos (face_of_point (edge_map edges.now count) p) }
+pub fn face_of_point(edges: Edges<'_>, p: Point) -> i64
+    requires { InRange p }
+    ensures { result ≡ pos (face_of_point (drawn edges.entry) p) }
 {
     let mut best = None;
-    for i in 0..count {
-        best = floor_over(best, p, edges, i);
+    for i in 0..edges.count {
+        best = floor_over(best, p, edges.rows, i);
     }
     match best {
         Some(h) => h.upper as i64,

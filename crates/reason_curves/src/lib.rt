@@ -13,11 +13,13 @@ ghost use Rattle.bounding_boxes.specs.Extents.{extent_of};
 ghost use Rattle.map.specs.Reasons.{first_reason, edge_through, is_end, node_inside, edge_meeting, contact_reason};
 ghost use Rattle.map.specs.Reasons.{meeting_reasons, sent_reasons, curve_in};
 ghost use Rattle.map.specs.Refusals.{refusal_of};
-ghost use Rattle.map_rows.specs.Rows.{NodeRow, NodeRows, EdgeRow, EdgeRows, node_at, edge_at, node_map, edge_map};
+ghost use Rattle.map_rows.specs.Rows.{NodeRow, EdgeRow, node_at, edge_at};
+ghost use Rattle.lent_rows.specs.Lent.{placed, drawn};
 ghost use Rattle.reason_curves.specs.Sent.{curve_reasons_at, edges_but};
 
 use bounding_boxes::Extent;
 use curve_edits::Line;
+use lent_rows::{Edges, Nodes};
 use map::{Map, Refusal};
 use plane::{Contact, Point};
 
@@ -105,12 +107,13 @@ pub fn check_curve(nodes: &[i64], u: usize, v: usize, c: &[i64]) -> Result<(), R
 // ---- 10: another node at the point, or an edge through it
 
 // Whether a node but that of row `own` lies on the point.
-pub fn node_at(nodes: &[i64], n: usize, own: usize, p: Point) -> bool
-    requires { NodeRows nodes.now n × InRange p }
-    ensures { result ≡ any_of (λ i. not (same i own) && same_point (node_at nodes.now i).at p) (table (λ i. i) 0 n) }
+pub fn node_at(nodes: Nodes<'_>, own: usize, p: Point) -> bool
+    requires { InRange p }
+    ensures { result ≡ any_of (λ i. not (same i own) && same_point (node_at nodes.entry.rows.now i).at p)
+        (table (λ i. i) 0 nodes.entry.count) }
 {
-    for i in 0..n {
-        if i != own && map_rows::node_point(nodes, i) == p {
+    for i in 0..nodes.count {
+        if i != own && map_rows::node_point(nodes.rows, i) == p {
             return true;
         }
     }
@@ -126,12 +129,12 @@ pub fn on_curve(c: &[i64], p: Point) -> bool
 }
 
 // Whether an edge passes through the point.
-pub fn edge_through(edges: &[i64], count: usize, p: Point) -> bool
-    requires { EdgeRows edges.now count × InRange p }
-    ensures { result ≡ edge_through (edge_map edges.now count) p }
+pub fn edge_through(edges: Edges<'_>, p: Point) -> bool
+    requires { InRange p }
+    ensures { result ≡ edge_through (drawn edges.entry) p }
 {
-    for i in 0..count {
-        if on_curve(map_rows::curve_of(edges, i), p) {
+    for i in 0..edges.count {
+        if on_curve(map_rows::curve_of(edges.rows, i), p) {
             return true;
         }
     }
@@ -149,12 +152,12 @@ fn is_end(c: &[i64], p: Point) -> bool
 }
 
 // Whether a node lies on the curve and is no end of it.
-fn node_inside(nodes: &[i64], n: usize, c: &[i64]) -> bool
-    requires { NodeRows nodes.now n × Run c.now }
-    ensures { result ≡ node_inside (node_map nodes.now n) (curve_of c.now) }
+fn node_inside(nodes: Nodes<'_>, c: &[i64]) -> bool
+    requires { Run c.now }
+    ensures { result ≡ node_inside (placed nodes.entry) (curve_of c.now) }
 {
-    for i in 0..n {
-        let p = map_rows::node_point(nodes, i);
+    for i in 0..nodes.count {
+        let p = map_rows::node_point(nodes.rows, i);
         if on_curve(c, p) && !is_end(c, p) {
             return true;
         }
@@ -176,15 +179,15 @@ fn row_meeting(found: Contact, edges: &[i64], i: usize, e: Extent, c: &[i64]) ->
 }
 
 // The gravest that the curve does with an edge but that of row `own`.
-fn edge_meeting(edges: &[i64], count: usize, own: usize, c: &[i64]) -> Contact
-    requires { EdgeRows edges.now count × Run c.now }
-    ensures { result ≡ edge_meeting (edges_but edges.now count own) (curve_of c.now) }
+fn edge_meeting(edges: Edges<'_>, own: usize, c: &[i64]) -> Contact
+    requires { Run c.now }
+    ensures { result ≡ edge_meeting (edges_but edges.entry.rows.now edges.entry.count own) (curve_of c.now) }
 {
     let e = bounding_boxes::extent_of(c);
     let mut found = Contact::None;
-    for i in 0..count {
+    for i in 0..edges.count {
         if i != own {
-            found = row_meeting(found, edges, i, e, c);
+            found = row_meeting(found, edges.rows, i, e, c);
         }
     }
     found
@@ -204,19 +207,17 @@ fn check_contact(k: Contact) -> Result<(), Refusal>
 
 // 14, and the one of 23, 15 and 24 that is found, against a curve of edge row `own`.
 pub fn check_meeting(
-    nodes: &[i64],
-    n: usize,
-    edges: &[i64],
-    count: usize,
+    nodes: Nodes<'_>,
+    edges: Edges<'_>,
     own: usize,
     c: &[i64],
 ) -> Result<(), Refusal>
-    requires { NodeRows nodes.now n × EdgeRows edges.now count × Run c.now }
-    ensures { refusal_of result ≡ first_reason (meeting_reasons (node_map nodes.now n)
-        (edges_but edges.now count own) (curve_of c.now)) }
+    requires { Run c.now }
+    ensures { refusal_of result ≡ first_reason (meeting_reasons (placed nodes.entry)
+        (edges_but edges.entry.rows.now edges.entry.count own) (curve_of c.now)) }
 {
-    if node_inside(nodes, n, c) {
+    if node_inside(nodes, c) {
         return Err(Refusal::NodeInside);
     }
-    check_contact(edge_meeting(edges, count, own, c))
+    check_contact(edge_meeting(edges, own, c))
 }

@@ -1,10 +1,9 @@
 -- The first reason of kinds 11 and 12, from 7 on, from its parts, on tables in form, and what the answer tells. Assumes
 -- nothing.
-use mathlib.Core.Path.{◌≡◌, refl, sym, ap, ◌∙◌}
+use mathlib.Core.Path.{◌≡◌, refl, sym, ◌∙◌}
 use mathlib.Core.Bool.{Bool}
 use mathlib.Core.List.{List}
-use Prim.Native.Nat.{ℕ, zero, suc, ◌+◌, ◌<◌}
-use native.Mathlib.Omega.{arith}
+use Prim.Native.Nat.{ℕ, suc, ◌+◌, ◌<◌}
 use lib.IntN.{ℤ, pos, nat_abs}
 use Rattle.lists.specs.Tests.{bit}
 use Rattle.plane.specs.Directions.{Way}
@@ -25,7 +24,6 @@ use Rattle.reason_corners.specs.CornerFaces.{corner_cell}
 use Rattle.reason_corners.specs.Drawing.{edges_numbered}
 use Rattle.reason_corners.proofs.Alike.{splits_alike}
 use Rattle.reason_corners.proofs.CornerFaces.{corner-in_form}
-use Rattle.reason_edges.specs.declared.Judged.{Judged}
 use Rattle.reason_edges.specs.Parts.{drawing_reasons, growth_reasons, makes_second}
 use Rattle.reason_edges.specs.Judging.{judged_add}
 use Rattle.reason_edges.proofs.Drawing.{nodes_are, edges_are, edges_rise, rows-read, bare}
@@ -58,7 +56,8 @@ module _ {nodes edges faces : List ℤ} {h : Head} (f : Formed nodes edges faces
     pub corner_told : u < nat_abs h.nodes → {x : ℕ} {w : Way} {y z : ℤ} → x ≡ nat_abs h.edges → w ≡ start_way c
         → y ≡ z → z ≡ corner_cell nodes u edges x w → y ≡ pos corner
     corner_told hu ex ew ey ez = ey ∙ ez ∙ (λ i. corner_cell nodes u edges (ex i) (ew i))
-        ∙ corner-in_form (node_rows_lem f) (edge_rows_lem f) m (nodes_are f) (edges_are f refl) u hu (bare f) (start_way c)
+        ∙ corner-in_form (node_rows_lem f) (edge_rows_lem f) m (nodes_are f) (edges_are f refl) u hu (bare f)
+        (start_way c)
 
     -- whether it is split
     pub splits_told : {x : ℕ} {p : Bool} → x ≡ nat_abs h.edges
@@ -78,8 +77,10 @@ module _ {nodes edges faces : List ℤ} {h : Head} (f : Formed nodes edges faces
       pub rows_late : k ≡ first_reason (add_edge_reasons how s m a b c)
       rows_late =
           let second : w ≡ makes_second splits how corner = ew ∙ (λ i. makes_second (ep i) how (nat_abs (ez i))) in
-          ek ∙ (λ i. first_reason (room_at_lem f (counts 0 1 (bit (ep i))) (counts 0 1 (bit (ep i) + bit (second i))) i))
+          ek ∙ (λ i. first_reason (room_at_lem f (counts 0 1 (bit (ep i)))
+          (counts 0 1 (bit (ep i) + bit (second i))) i))
           ∙ sym (first_after (drawing_reasons m a b c) (growth_reasons how s m a b c) refl clear)
 
-    pub rows_known : {z : ℤ} {p : Bool} → z ≡ pos corner → p ≡ splits → record { face = z; splits = p } ≡ judged_add m a b c
+    pub rows_known : {z : ℤ} {p : Bool} → z ≡ pos corner → p ≡ splits
+        → record { face = z; splits = p } ≡ judged_add m a b c
     rows_known ez ep = λ i. record { face = ez i; splits = ep i }

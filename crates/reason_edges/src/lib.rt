@@ -20,6 +20,7 @@ ghost use Rattle.outcomes.specs.Variants.{remove_ticket};
 ghost use Rattle.reason_edges.specs.Parts.{drawing_reasons, makes_second, makes_of, face_reasons};
 ghost use Rattle.reason_edges.specs.Judging.{judged_add};
 
+use lent_rows::{Edges, Nodes};
 use map::{Counts, Head, Refusal, Variant};
 
 // Of a new edge that nothing is against: its corner face, and whether that is split.
@@ -65,23 +66,28 @@ fn check_drawing(
         (node_at nodes.now u).number (node_at nodes.now v).number
         (curve_of c.now)) }
 {
-    let n = head::to_usize(h.nodes);
-    let e = head::to_usize(h.edges);
+    let placed = Nodes {
+        rows: nodes,
+        count: head::to_usize(h.nodes),
+    };
+    let drawn = Edges {
+        rows: edges,
+        count: head::to_usize(h.edges),
+    };
     reason_curves::check_curve(nodes, u, v, c)?;
     if reason_departures::direction_taken(
-        edges,
-        e,
-        e,
+        drawn,
+        drawn.count,
         nodes[u * map::NODE_WIDTH],
         nodes[v * map::NODE_WIDTH],
         c,
     ) {
         return Err(Refusal::DirectionTaken);
     }
-    if reason_corners::corners_differ(nodes, u, v, edges, e, c) {
+    if reason_corners::corners_differ(nodes, u, v, drawn, c) {
         return Err(Refusal::FacesDiffer);
     }
-    reason_curves::check_meeting(nodes, n, edges, e, e, c)
+    reason_curves::check_meeting(placed, drawn, drawn.count, c)
 }
 
 // 20 and 21, of an edge more, and where it splits a face, a face more, and a second new one where the old face goes.
@@ -135,9 +141,12 @@ pub fn judge_add(
         (curve_of c.now)) }
 {
     check_drawing(nodes, edges, faces, h, u, v, c)?;
-    let e = head::to_usize(h.edges);
-    let face = reason_corners::corner_face(nodes, u, edges, e, darts::first_step(c, false));
-    let splits = reason_corners::splits_face(nodes, edges, e, u, v, c);
+    let drawn = Edges {
+        rows: edges,
+        count: head::to_usize(h.edges),
+    };
+    let face = reason_corners::corner_face(nodes, u, drawn, darts::first_step(c, false));
+    let splits = reason_corners::splits_face(nodes, drawn, u, v, c);
     let second = makes_second(splits, how, face);
     check_room(nodes, edges, faces, h, splits, second)?;
     Ok(Judged { face, splits })

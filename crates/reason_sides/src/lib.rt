@@ -13,24 +13,26 @@ ghost use Rattle.map.specs.Darts.{ring, among, arcs, piece_of};
 ghost use Rattle.map.specs.Faces.{ring_area};
 ghost use Rattle.map.specs.Reasons.{isolated_points, sides_change};
 ghost use Rattle.map.specs.Loans.{lent_now};
-ghost use Rattle.map_rows.specs.Rows.{NodeRows, EdgeRow, EdgeRows, node_map, edge_map, edge_at, edges_of};
+ghost use Rattle.map_rows.specs.Rows.{EdgeRow, edge_map, edge_at, edges_of};
+ghost use Rattle.lent_rows.specs.Lent.{placed, drawn};
 ghost use Rattle.darts.specs.Positions.{dart_at};
 ghost use Rattle.outcomes.specs.Outcomes.{Formed};
 ghost use Rattle.piece_labels.specs.Labels.{Ended, Labelled};
 ghost use Rattle.reason_sides.specs.Passing.{sign_changes, passes_over, start_passed, ring_passed};
 
+use lent_rows::{Edges, Nodes};
 use map::{Head, Map};
 use plane::Point;
 
 // ---- areas
 
 // Whether the doubled area of the ring of p changes between positive and not positive where it loses so much.
-fn area_changes(edges: &[i64], count: usize, p: usize, lost: i64) -> bool
-    requires { EdgeRows edges.now count × (count ≤ max_edges) × (p < count * 2) }
-    ensures { result ≡ sign_changes (ring_area (edge_map edges.now count)
-        (ring (edge_map edges.now count) (dart_at edges.now p))) lost }
+fn area_changes(edges: Edges<'_>, p: usize, lost: i64) -> bool
+    requires { (edges.count ≤ max_edges) × (p < edges.count * 2) }
+    ensures { result ≡ sign_changes (ring_area (drawn edges.entry)
+        (ring (drawn edges.entry) (dart_at edges.entry.rows.now p))) lost }
 {
-    let area = rings::ring_area(edges, count, p);
+    let area = rings::ring_area(edges, p);
     (0 < area) != (lost < area)
 }
 
@@ -44,17 +46,17 @@ fn area_lost(edges: &[i64], i: usize, c: &[i64]) -> i64
 
 // Whether the area of the ring on either side of edge row i changes so where the row gets the curve c; right only
 // where these are two rings.
-fn areas_change(edges: &[i64], count: usize, i: usize, c: &[i64]) -> bool
-    requires { EdgeRows edges.now count × (count ≤ max_edges) × (i < count) × Run c.now }
-    ensures { result ≡ sign_changes (ring_area (edge_map edges.now count)
-        (ring (edge_map edges.now count) (dart_at edges.now (i * 2))))
-        (curve_area (edge_at edges.now i).curve -ℤ curve_area (curve_of c.now))
-        || sign_changes (ring_area (edge_map edges.now count)
-        (ring (edge_map edges.now count) (dart_at edges.now (i * 2 + 1))))
-        (curve_area (curve_of c.now) -ℤ curve_area (edge_at edges.now i).curve) }
+fn areas_change(edges: Edges<'_>, i: usize, c: &[i64]) -> bool
+    requires { (edges.count ≤ max_edges) × (i < edges.count) × Run c.now }
+    ensures { result ≡ sign_changes (ring_area (drawn edges.entry)
+        (ring (drawn edges.entry) (dart_at edges.entry.rows.now (i * 2))))
+        (curve_area (edge_at edges.entry.rows.now i).curve -ℤ curve_area (curve_of c.now))
+        || sign_changes (ring_area (drawn edges.entry)
+        (ring (drawn edges.entry) (dart_at edges.entry.rows.now (i * 2 + 1))))
+        (curve_area (curve_of c.now) -ℤ curve_area (edge_at edges.entry.rows.now i).curve) }
 {
-    let lost = area_lost(edges, i, c);
-    area_changes(edges, count, i * 2, lost) | area_changes(edges, count, i * 2 + 1, -lost)
+    let lost = area_lost(edges.rows, i, c);
+    area_changes(edges, i * 2, lost) | area_changes(edges, i * 2 + 1, -lost)
 }
 
 // ---- points
@@ -68,13 +70,15 @@ fn passes_over(a: &[i64], b: &[i64], q: Point) -> bool
 }
 
 // Whether it passes over an isolated node.
-fn node_passed(nodes: &[i64], n: usize, a: &[i64], b: &[i64]) -> bool
-    requires { NodeRows nodes.now n × Run a.now × Run b.now }
+fn node_passed(nodes: Nodes<'_>, a: &[i64], b: &[i64]) -> bool
+    requires { Run a.now × Run b.now }
     ensures { result ≡ any_of (passes_over (curve_of a.now) (curve_of b.now))
-        (isolated_points (node_map nodes.now n)) }
+        (isolated_points (placed nodes.entry)) }
 {
-    for k in 0..n {
-        if map_rows::is_isolated(nodes, k) && passes_over(a, b, map_rows::node_point(nodes, k)) {
+    for k in 0..nodes.count {
+        if map_rows::is_isolated(nodes.rows, k)
+            && passes_over(a, b, map_rows::node_point(nodes.rows, k))
+        {
             return true;
         }
     }
@@ -103,13 +107,13 @@ fn starts_at_end(edges: &[i64], i: usize, j: usize) -> bool
 }
 
 // Whether it passes over the start of an edge that starts at no node of edge row i.
-fn any_start_passed(edges: &[i64], count: usize, i: usize, c: &[i64]) -> bool
-    requires { EdgeRows edges.now count × (i < count) × Run c.now }
-    ensures { result ≡ any_of (start_passed (edge_at edges.now i) (curve_of c.now))
-        (edges_of edges.now count) }
+fn any_start_passed(edges: Edges<'_>, i: usize, c: &[i64]) -> bool
+    requires { (i < edges.count) × Run c.now }
+    ensures { result ≡ any_of (start_passed (edge_at edges.entry.rows.now i) (curve_of c.now))
+        (edges_of edges.entry.rows.now edges.entry.count) }
 {
-    for j in 0..count {
-        if !starts_at_end(edges, i, j) & passes_start(edges, i, c, j) {
+    for j in 0..edges.count {
+        if !starts_at_end(edges.rows, i, j) & passes_start(edges.rows, i, c, j) {
             return true;
         }
     }
@@ -117,63 +121,47 @@ fn any_start_passed(edges: &[i64], count: usize, i: usize, c: &[i64]) -> bool
 }
 
 // Whether edge rows i and j start on one piece.
-fn same_piece(
-    nodes: &[i64],
-    n: usize,
-    edges: &[i64],
-    count: usize,
-    labels: &[u16],
-    i: usize,
-    j: usize,
-) -> bool
-    requires { Ended nodes.now n edges.now count × (i < count) × (j < count)
-        × Labelled (arcs (edge_map edges.now count)) nodes.now n labels.now }
-    ensures { result ≡ same (piece_of (edge_map edges.now count) (edge_at edges.now j).start)
-        (piece_of (edge_map edges.now count) (edge_at edges.now i).start) }
+fn same_piece(nodes: Nodes<'_>, edges: Edges<'_>, labels: &[u16], i: usize, j: usize) -> bool
+    requires { Ended nodes.rows.now nodes.count edges.rows.now edges.count × (i < edges.count) × (j < edges.count)
+        × Labelled (arcs (drawn edges)) nodes.rows.now nodes.count labels.now }
+    ensures { result ≡ same (piece_of (drawn edges.entry) (edge_at edges.entry.rows.now j).start)
+        (piece_of (drawn edges.entry) (edge_at edges.entry.rows.now i).start) }
 {
-    let a = piece_labels::label_of(nodes, n, labels, edges[j * map::EDGE_WIDTH + map::START]);
-    let b = piece_labels::label_of(nodes, n, labels, edges[i * map::EDGE_WIDTH + map::START]);
-    a == b
+    let start = edges.rows[j * map::EDGE_WIDTH + map::START];
+    let own = edges.rows[i * map::EDGE_WIDTH + map::START];
+    piece_labels::label_of(nodes.rows, nodes.count, labels, start)
+        == piece_labels::label_of(nodes.rows, nodes.count, labels, own)
 }
 
 // Whether it passes over the start of edge row j, the lowest of a ring on another piece.
 fn ring_passed(
-    nodes: &[i64],
-    n: usize,
-    edges: &[i64],
-    count: usize,
+    nodes: Nodes<'_>,
+    edges: Edges<'_>,
     labels: &[u16],
     i: usize,
     c: &[i64],
     j: usize,
 ) -> bool
-    requires { Ended nodes.now n edges.now count × (i < count) × (j < count) × Run c.now
-        × Labelled (arcs (edge_map edges.now count)) nodes.now n labels.now }
-    ensures { result ≡ ring_passed (edge_map edges.now count) (edge_at edges.now i)
-        (curve_of c.now) (edge_at edges.now j) }
+    requires { Ended nodes.rows.now nodes.count edges.rows.now edges.count × (i < edges.count)
+        × (j < edges.count) × Run c.now
+        × Labelled (arcs (drawn edges)) nodes.rows.now nodes.count labels.now }
+    ensures { result ≡ ring_passed (drawn edges.entry) (edge_at edges.entry.rows.now i)
+        (curve_of c.now) (edge_at edges.entry.rows.now j) }
 {
-    passes_start(edges, i, c, j)
-        && !same_piece(nodes, n, edges, count, labels, i, j)
-        && (rings::is_lowest(edges, count, j * 2) | rings::is_lowest(edges, count, j * 2 + 1))
+    passes_start(edges.rows, i, c, j)
+        && !same_piece(nodes, edges, labels, i, j)
+        && (rings::is_lowest(edges, j * 2) | rings::is_lowest(edges, j * 2 + 1))
 }
 
 // Whether it passes over the start of some such edge.
-fn any_ring_passed(
-    nodes: &[i64],
-    n: usize,
-    edges: &[i64],
-    count: usize,
-    labels: &[u16],
-    i: usize,
-    c: &[i64],
-) -> bool
-    requires { Ended nodes.now n edges.now count × (i < count) × Run c.now
-        × Labelled (arcs (edge_map edges.now count)) nodes.now n labels.now }
-    ensures { result ≡ any_of (ring_passed (edge_map edges.now count) (edge_at edges.now i)
-        (curve_of c.now)) (edges_of edges.now count) }
+fn any_ring_passed(nodes: Nodes<'_>, edges: Edges<'_>, labels: &[u16], i: usize, c: &[i64]) -> bool
+    requires { Ended nodes.rows.now nodes.count edges.rows.now edges.count × (i < edges.count) × Run c.now
+        × Labelled (arcs (drawn edges)) nodes.rows.now nodes.count labels.now }
+    ensures { result ≡ any_of (ring_passed (drawn edges.entry) (edge_at edges.entry.rows.now i)
+        (curve_of c.now)) (edges_of edges.entry.rows.now edges.entry.count) }
 {
-    for j in 0..count {
-        if ring_passed(nodes, n, edges, count, labels, i, c, j) {
+    for j in 0..edges.count {
+        if ring_passed(nodes, edges, labels, i, c, j) {
             return true;
         }
     }
@@ -182,40 +170,32 @@ fn any_ring_passed(
 
 // The same, with room for the labels.
 fn any_passed_with(
-    nodes: &[i64],
-    n: usize,
-    edges: &[i64],
-    count: usize,
+    nodes: Nodes<'_>,
+    edges: Edges<'_>,
     labels: &mut [u16],
     i: usize,
     c: &[i64],
 ) -> bool
-    requires { Ended nodes.now n edges.now count × (i < count) × Run c.now × (length labels.old ≡ n) }
-    ensures { result ≡ any_of (ring_passed (edge_map edges.now count) (edge_at edges.now i)
-        (curve_of c.now)) (edges_of edges.now count) }
+    requires { Ended nodes.rows.now nodes.count edges.rows.now edges.count × (i < edges.count) × Run c.now
+        × (length labels.old ≡ nodes.count) }
+    ensures { result ≡ any_of (ring_passed (drawn edges.entry) (edge_at edges.entry.rows.now i)
+        (curve_of c.now)) (edges_of edges.entry.rows.now edges.entry.count) }
 {
-    piece_labels::label_rows(nodes, n, edges, count, labels);
-    any_ring_passed(nodes, n, edges, count, labels, i, c)
+    piece_labels::label_rows(nodes.rows, nodes.count, edges.rows, edges.count, labels);
+    any_ring_passed(nodes, edges, labels, i, c)
 }
 
 // The same, with a look at all starts first: on most maps none is passed over, and no piece need be known.
-fn other_piece_passed(
-    nodes: &[i64],
-    n: usize,
-    edges: &[i64],
-    count: usize,
-    i: usize,
-    c: &[i64],
-) -> bool
-    requires { Ended nodes.now n edges.now count × (i < count) × Run c.now }
-    ensures { result ≡ any_of (ring_passed (edge_map edges.now count) (edge_at edges.now i)
-        (curve_of c.now)) (edges_of edges.now count) }
+fn other_piece_passed(nodes: Nodes<'_>, edges: Edges<'_>, i: usize, c: &[i64]) -> bool
+    requires { Ended nodes.rows.now nodes.count edges.rows.now edges.count × (i < edges.count) × Run c.now }
+    ensures { result ≡ any_of (ring_passed (drawn edges.entry) (edge_at edges.entry.rows.now i)
+        (curve_of c.now)) (edges_of edges.entry.rows.now edges.entry.count) }
 {
-    if !any_start_passed(edges, count, i, c) {
+    if !any_start_passed(edges, i, c) {
         return false;
     }
     let mut labels = [0u16; Map::NODES];
-    any_passed_with(nodes, n, edges, count, &mut labels[..n], i, c)
+    any_passed_with(nodes, edges, &mut labels[..nodes.count], i, c)
 }
 
 // ---- both sides
@@ -235,7 +215,11 @@ fn on_one_ring(nodes: &[i64], edges: &[i64], faces: &[i64], h: Head, i: usize) -
         ≡ among (ring (edge_map edges.now (nat_abs h.edges)) (dart_at edges.now (i * 2)))
         (dart_at edges.now (i * 2 + 1)) }
 {
-    one_face(edges, i) && rings::on_ring(edges, head::to_usize(h.edges), i * 2, i * 2 + 1)
+    let drawn = Edges {
+        rows: edges,
+        count: head::to_usize(h.edges),
+    };
+    one_face(edges, i) && rings::on_ring(drawn, i * 2, i * 2 + 1)
 }
 
 // Whether the curve c for edge row i changes the ring on a side of it: its area between positive and not positive, or
@@ -254,8 +238,16 @@ pub fn sides_change(
 {
     let n = head::to_usize(h.nodes);
     let e = head::to_usize(h.edges);
+    let placed = Nodes {
+        rows: nodes,
+        count: n,
+    };
+    let drawn = Edges {
+        rows: edges,
+        count: e,
+    };
     !on_one_ring(nodes, edges, faces, h, i)
-        && (areas_change(edges, e, i, c)
-            || node_passed(nodes, n, map_rows::curve_of(edges, i), c)
-            || other_piece_passed(nodes, n, edges, e, i, c))
+        && (areas_change(drawn, i, c)
+            || node_passed(placed, map_rows::curve_of(edges, i), c)
+            || other_piece_passed(placed, drawn, i, c))
 }

@@ -44,7 +44,7 @@ use Rattle.edit_nodes.proofs.Nodes.{move_carried}
 use Rattle.records.specs.declared.Node.{Node}
 use Rattle.records.specs.declared.Moved.{Moved}
 use Rattle.records.specs.Records.{record_cells, node_table, row_node, node_row, changed_at, moved_nodes}
-use Rattle.records.specs.Records.{moved_answer}
+use Rattle.records.specs.Records.{moved_answer, unless_refused}
 use Rattle.records.proofs.Packing.{no_node, length-cells}
 
 -- ---- kind 2 on tables of numbers
@@ -218,6 +218,16 @@ row_paste (y ∷ ys) (suc i) r h =
     let e : suc i * 4 ≡ suc (suc (suc (suc (i * 4)))) = omega arith in
     let f : suc (suc (suc (suc (i * 4)))) + 4 ≡ suc (suc (suc (suc (i * 4 + 4)))) = omega arith in
     rw (e, f) (ap (λ (l : List ℤ). y.number ∷ y.x ∷ y.y ∷ y.face ∷ l) (row_paste ys i r (omega arith)))
+
+-- ---- by whether a call was turned down
+
+pub by_refusal : {A : Type 0} (k : ℕ) (a b : A) → (k ≡ 0 → ⊥) → unless_refused k a b ≡ b
+by_refusal zero a b t = absurd (t refl)
+by_refusal (suc k) a b t = refl
+
+pub by_zero : {A : Type 0} (k : ℕ) (a b : A) → k ≡ 0 → unless_refused k a b ≡ a
+by_zero zero a b t = refl
+by_zero (suc k) a b t = absurd (omega arith)
 
 -- ---- what `move_front` leaves, of a ticket that it had worked out on the first k numbers
 

@@ -1,6 +1,6 @@
 -- Nodes as records: the same four numbers as a row of the node table.
 use mathlib.Core.List.{List, [], ◌∷◌, flat_map, map}
-use Rattle.std.specs.Prelude.{ℕ, ◌+◌, ◌*◌, ℤ, pos, get_or, take, set, Option, Some, None, Result, Ok, Err}
+use Rattle.std.specs.Prelude.{ℕ, ◌+◌, ◌*◌, ℤ, pos, get_or, take, set, Option, Some, None, Result, Ok, Err, zero, suc}
 use Rattle.lists.specs.Tables.{place}
 use Rattle.map.specs.declared.Answer.{Answer}
 use Rattle.map.specs.Limits.{node_width}
@@ -34,6 +34,11 @@ node_row ns n number = place (same_z number) 0 (map (λ r. r.number) (take n ns)
 abbrev pub changed_at : List Node → Node → Option ℕ → List Node
 changed_at ns n (Some i) = set ns i n
 changed_at ns n None = ns
+
+-- a where a call was carried out, b where it was turned down
+abbrev pub unless_refused : {A : Type 0} → ℕ → A → A → A
+unless_refused zero a b = a
+unless_refused (suc r) a b = b
 
 -- the records after kind 2, which changes one where it was carried out, and its answer
 abbrev pub moved_nodes : List Node → Result Moved Answer → List Node

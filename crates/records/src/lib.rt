@@ -306,6 +306,7 @@ fn move_front(
     let t = [MOVE, node, x, y];
     let done = ticket_front(flat, k, edges, faces, h, &t);
     let answer = done.answer;
+    // the engine answers by number
     if answer.refusal != 0 {
         return Err(answer);
     }

@@ -18,7 +18,7 @@ use map::Map;
 pub const BEYOND: u64 = Map::COORDINATE as u64 + 1;
 
 // No point yet: every point is left of it and below.
-const NO_POINT: Extent = Extent {
+pub const NO_POINT: Extent = Extent {
     left: BEYOND,
     right: 0,
     low: BEYOND,

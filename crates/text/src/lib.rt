@@ -42,7 +42,7 @@ fn count_numbers(line: &[u8]) -> Option<usize>
     Some(n)
 }
 
-// The second pass, over a line that is right: its numbers are written. What stands between two blanks is no number.
+// The second pass, over a line that is right: its numbers are written. The empty piece between two blanks is none.
 fn write_numbers(line: &[u8], list: &mut [i64])
     requires { NumbersFit (length list.old) (numbers_of (words line.now)) }
     ensures { list.new ≡ numbers_written list.old (numbers_of (words line.now)) }

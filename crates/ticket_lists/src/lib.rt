@@ -27,12 +27,7 @@ fn check_run(
         ≡ first_reason (create_reasons (lent_now nodes.now edges.now faces.now h) points
         ++ (20, ltb (length refusals.now) (length lengths.now) || ltb (length values.now) (length lengths.now)) ∷ []) }
 {
-    if !form_ranges::is_whole(nodes, edges, faces) {
-        return Err(Refusal::NotWhole);
-    }
-    if !head::is_record(points) {
-        return Err(Refusal::NotInForm);
-    }
+    engine::check_create(nodes, edges, faces, points)?;
     let n = lengths.len();
     if (refusals.len() < n) | (values.len() < n) {
         return Err(Refusal::NoRoom);

@@ -1,6 +1,5 @@
 -- `edge_rows::draw` meets its contract: the row written last and linked in, and its nodes without a face, are the edge
 -- drawn. Assumes nothing.
-use borrow.Author.Rules.{rules}
 use mathlib.Core.Path.{◌≡◌, ap, ap₂, ◌∙◌}
 use mathlib.Core.List.{List}
 use Prim.Native.Nat.{ℕ, ◌+◌, ◌*◌}

@@ -1,5 +1,5 @@
 -- `edge_rows::is_isolated_without` meets its contract: all ends at the node are the row's own. Assumes nothing.
-use borrow.Author.Rules.{rules, sfits_of}
+use borrow.Author.Rules.{sfits_of}
 use mathlib.Core.Path.{ap, ap₂, ◌∙◌}
 use mathlib.Core.Bool.{Bool, true, false}
 use Prim.Native.Nat.{ℕ, ◌+◌, ◌*◌}
@@ -25,7 +25,7 @@ two-fit false false = Fits-of_lt (lit< tt)
 pub overflow_add-own : goal.overflow_add-own
 overflow_add-own c =
     let a = c.args in
-    let l = a.edges.now in
+    let l = a.edges.rows.now in
     two-fit (eqb (of_z w64 (get_or l (a.i * 32 + 1) (pos 0))) (of_z w64 a.node))
     (eqb (of_z w64 (get_or l (a.i * 32 + 2) (pos 0))) (of_z w64 a.node))
 
@@ -34,13 +34,13 @@ unfolding same
 returns c =
     let s = c in
     let a = s.args in
-    let l = a.edges.now in
+    let l = a.edges.rows.now in
     let u = get_or l (a.i * 32 + 1) (pos 0) in
     let v = get_or l (a.i * 32 + 2) (pos 0) in
     let fu = sfits_of c.u-1.given in
     let fv = sfits_of c.v-1.given in
     let fn = s.ranges.node in
-    ap₂ same (c.edge_ends.ensures.0 ∙ ap (λ (z : ℤ). count_of (leaves_node l z) (positions a.count))
+    ap₂ same (c.edge_ends.ensures.0 ∙ ap (λ (z : ℤ). count_of (leaves_node l z) (positions a.edges.count))
     (to_z-of_z {w = w64} fn))
     (ap₂ (λ (x y : ℕ). x + y) (byte_bit (eqb (of_z w64 u) (of_z w64 a.node))
     ∙ ap bit (word_test {a = u} {b = a.node} fu fn))

@@ -1,5 +1,4 @@
 -- `edge_rows::undraw_edge` meets its contract: the tests look at the row unlinked and not yet gone. Assumes nothing.
-use borrow.Author.Rules.{rules}
 use mathlib.Core.Path.{ap, ap₂, ◌∙◌}
 use mathlib.Core.List.{List}
 use lib.IntN.{ℤ}
@@ -10,18 +9,9 @@ use Rattle.links.proofs.LinkedEdges.{unlinked_edge_kept}
 use Rattle.edge_rows.specs.Holds.{isolated_without}
 use Rattle.edge_rows.proofs.undraw_edge.Goals as goal
 
-pub is_isolated_without-start-requires : goal.is_isolated_without-start-requires
-is_isolated_without-start-requires c =
-    let s = c in
-    (rw c.unlink_edge.ensures (unlinked_edge_kept s.requires.0 s.args.i s.requires.1), s.requires.1)
-
-pub is_isolated_without-end-requires : goal.is_isolated_without-end-requires
-is_isolated_without-end-requires c =
-    let s = c in (
-      rw c.unlink_edge.ensures
-          (unlinked_edge_kept s.requires.0 s.args.i s.requires.1),
-      s.requires.1,
-    )
+pub invariant_of-unlinked : goal.invariant_of-unlinked
+invariant_of-unlinked c =
+    record { ranged = rw c.unlink_edge.ensures (unlinked_edge_kept c.requires.0 c.args.i c.requires.1) }
 
 pub returns : goal.returns
 returns c =

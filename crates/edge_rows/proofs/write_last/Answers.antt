@@ -1,5 +1,4 @@
 -- `edge_rows::write_last` meets its contract: the numbers written are those of the new row. Assumes nothing.
-use borrow.Author.Rules.{rules}
 use mathlib.Core.Path.{ap, ap₂, ◌∙◌}
 use mathlib.Core.List.{List}
 use Prim.Native.Nat.{ℕ, ◌*◌}

@@ -21,7 +21,6 @@ row_of-u-requires c =
     let a = s.args in
     let n = nodes_read (counted s.requires.0) c.to_usize-n.ensures in
     let q = sent c.start_of.type_inv ∙ c.start_of.ensures in (
-      rw n (node_rows_lem s.requires.0),
       ap non_neg q,
       ap₂ (λ (k : ℕ) (z : ℤ). has_node (node_map a.nodes.now k) (nat_abs z)) n q
           ∙ start_there s.requires.0 a.i s.requires.1,
@@ -33,7 +32,6 @@ row_of-v-requires c =
     let a = s.args in
     let n = nodes_read (counted s.requires.0) c.to_usize-n.ensures in
     let q = sent c.end_of.type_inv ∙ c.end_of.ensures in (
-      rw n (node_rows_lem s.requires.0),
       ap non_neg q,
       ap₂ (λ (k : ℕ) (z : ℤ). has_node (node_map a.nodes.now k) (nat_abs z)) n q
           ∙ end_there s.requires.0 a.i s.requires.1,
@@ -71,3 +69,8 @@ start_of-requires c = let s = c in edge-row_of (edge_rows_lem s.requires.0) s.ar
 pub end_of-requires : goal.end_of-requires
 end_of-requires c = let s = c in
     edge-row_of (edge_rows_lem s.requires.0) s.args.i s.requires.1
+
+pub invariant_of-placed : goal.invariant_of-placed
+invariant_of-placed c = record {
+  ranged = rw (nodes_read (counted c.requires.0) c.to_usize-n.ensures) (node_rows_lem c.requires.0);
+}

@@ -26,10 +26,7 @@ returns-in_err-check_curve c =
 pub check_turns-requires : goal.check_turns-requires
 check_turns-requires c =
     let p = c.requires in
-    let n = nodes_read p.0.counted c.to_usize-n.ensures in
     let j = edges_read p.0.counted c.to_usize-e.ensures in (
-      rw n p.0.node_table_lem.rows,
-      rw j p.0.edge-table.rows,
       omega (arith, j, p.0.counted.edges.most),
       rw j p.1,
       p.4,
@@ -45,3 +42,13 @@ returns c =
     (sym c.in_ok-check_curve.ensures)
     (c.check_turns.ensures ∙ ap₂ (λ (x y : ℕ). first_reason
     (turn_reasons a.nodes.now x a.edges.now y a.i a.c.now)) n j)
+
+pub invariant_of-placed : goal.invariant_of-placed
+invariant_of-placed c = record {
+  ranged = rw (nodes_read c.requires.0.counted c.to_usize-n.ensures) c.requires.0.node_table_lem.rows;
+}
+
+pub invariant_of-drawn : goal.invariant_of-drawn
+invariant_of-drawn c = record {
+  ranged = rw (edges_read c.requires.0.counted c.to_usize-e.ensures) c.requires.0.edge-table.rows;
+}

@@ -12,12 +12,12 @@ pub returns : goal.returns
 returns c =
     let a = c.args in
     c.direction_taken.ensures
-    ∙ direction_is c.requires.0 a.i (edge_at a.edges.now a.i).number (curve_of a.c.now)
+    ∙ direction_is c.args.edges.ranged a.i (edge_at a.edges.rows.now a.i).number (curve_of a.c.now)
     (record { is = λ t. refl; none = λ t j b q. absurd (omega arith) })
-    (sent c.start_of.type_inv ∙ c.start_of.ensures) (sent c.end_of.type_inv ∙ c.end_of.ensures)
+    (sent c.start_of-u.type_inv ∙ c.start_of-u.ensures) (sent c.end_of-v.type_inv ∙ c.end_of-v.ensures)
 
-pub start_of-requires : goal.start_of-requires
-start_of-requires c = edge-row_of c.requires.0 c.args.i c.requires.1
+pub start_of-u-requires : goal.start_of-u-requires
+start_of-u-requires c = edge-row_of c.args.edges.ranged c.args.i c.requires.0
 
-pub end_of-requires : goal.end_of-requires
-end_of-requires c = edge-row_of c.requires.0 c.args.i c.requires.1
+pub end_of-v-requires : goal.end_of-v-requires
+end_of-v-requires c = edge-row_of c.args.edges.ranged c.args.i c.requires.0

@@ -20,10 +20,12 @@ pub returns : goal.returns
 returns c =
     let a = c.args in
     let p = c.requires in
+    let l = a.nodes.rows.now in
+    let n = a.nodes.count in
     let z = to_z-of_z {w = w64} c.ranges.node in
-    place_told node_width a.nodes.now {n = a.count} refl z c.find_row.ensures
+    place_told node_width l {n = n} refl z c.find_row.ensures
     (there c.find_row.result c.unwrap_or.ensures
-    (λ e. node_placed p.0 a.node p.1 p.2 (place_told node_width a.nodes.now {n = a.count} refl z c.find_row.ensures e)))
+    (λ e. node_placed a.nodes.ranged a.node p.0 p.1 (place_told node_width l {n = n} refl z c.find_row.ensures e)))
 
 pub find_row-requires : goal.find_row-requires
-find_row-requires c = node_rows_rising c.requires.0
+find_row-requires c = node_rows_rising c.args.nodes.ranged

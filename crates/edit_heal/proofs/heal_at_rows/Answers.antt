@@ -61,9 +61,14 @@ late h t how i j ps e k = sym (k ∙ ap (λ (x : ℕ). first_reason (late_reason
 pub to_usize-e-requires : goal.to_usize-e-requires
 to_usize-e-requires c = edges_natural (counted c.requires.0)
 
+-- the edges in use
+pub invariant_of-drawn : goal.invariant_of-drawn
+invariant_of-drawn c = let f = c.requires.0 in
+    record { ranged = rw (edges_read (counted f) c.to_usize-e.ensures) (edge_rows_lem f) }
+
 pub check_joint-requires : goal.check_joint-requires
 check_joint-requires c = let p = c.requires in
-    rw (edges_read (counted p.0) c.to_usize-e.ensures) (edge_rows_lem p.0, p.1, p.2)
+    rw (edges_read (counted p.0) c.to_usize-e.ensures) (p.1, p.2)
 
 pub returns-in_err-check_joint : goal.returns-in_err-check_joint
 returns-in_err-check_joint c =
@@ -80,14 +85,12 @@ parts_of-s-requires c =
     let a = c.args in
     let p = c.requires in
     let n = edges_read (counted p.0) c.to_usize-e.ensures in
-    let none = early a.edges.now a.h a.i a.j n c.in_ok-check_joint.ensures in
-    rw n (record {
-      rows = edge_rows_lem p.0;
-      few = (counted p.0).edges.most;
-      first_row = p.1;
-      second_row = p.2;
-      joint = joint_some (m a.edges.now a.h a.i a.j) _ _ none;
-    })
+    record {
+      few = rw n (counted p.0).edges.most;
+      first_row = rw n p.1;
+      second_row = rw n p.2;
+      joint = joint_some _ _ _ (sym c.in_ok-check_joint.ensures);
+    }
 
 pub joined_line-l-requires : goal.joined_line-l-requires
 joined_line-l-requires c =

@@ -17,9 +17,12 @@ use Rattle.edit_isolated.proofs.Removed.{remove_joined, remove_free, remove_lent
 use Rattle.edit_isolated.proofs.remove_at_row.Goals as goal
 
 pub edge_isolated-requires : goal.edge_isolated-requires
-edge_isolated-requires c =
-    let n = edges_read (counted c.requires.0) c.to_usize-e.ensures in
-    (rw n (edge_rows_lem c.requires.0), rw n c.requires.1)
+edge_isolated-requires c = rw (edges_read (counted c.requires.0) c.to_usize.ensures) c.requires.1
+
+-- the edges in use
+pub invariant_of-drawn : goal.invariant_of-drawn
+invariant_of-drawn c = let f = c.requires.0 in
+    record { ranged = rw (edges_read (counted f) c.to_usize.ensures) (edge_rows_lem f) }
 
 pub returns-then-not-edge_isolated : goal.returns-then-not-edge_isolated
 returns-then-not-edge_isolated c =
@@ -29,7 +32,7 @@ returns-then-not-edge_isolated c =
     (remove_joined c.requires.0 a.i c.requires.1
     (c.edge_isolated.ensures
     ∙ ap (λ (k : ℕ). edge_isolated (edge_map a.edges.now k) (edge_at a.edges.now a.i).number)
-    (edges_read (counted c.requires.0) c.to_usize-e.ensures)) c.if-not-edge_isolated.true)
+    (edges_read (counted c.requires.0) c.to_usize.ensures)) c.if-not-edge_isolated.true)
 
 pub undraw-head-requires : goal.undraw-head-requires
 undraw-head-requires c =
@@ -47,12 +50,12 @@ returns c =
     (remove_free c.requires.0 a.i c.requires.1
     (c.edge_isolated.ensures
     ∙ ap (λ (k : ℕ). edge_isolated (edge_map a.edges.now k) (edge_at a.edges.now a.i).number)
-    (edges_read (counted c.requires.0) c.to_usize-e.ensures)) c.if-not-edge_isolated.false)
+    (edges_read (counted c.requires.0) c.to_usize.ensures)) c.if-not-edge_isolated.false)
     (remove_lent c.requires.0 a.i c.requires.1 (sent l.type_inv ∙ l.ensures) u.ensures)
     (remove_value _ _)
 
-pub to_usize-e-requires : goal.to_usize-e-requires
-to_usize-e-requires c = edges_natural (counted c.requires.0)
+pub to_usize-requires : goal.to_usize-requires
+to_usize-requires c = edges_natural (counted c.requires.0)
 
 pub left_face-face-requires : goal.left_face-face-requires
 left_face-face-requires c = edge-row_of (edge_rows_lem c.requires.0) c.args.i c.requires.1

@@ -133,11 +133,11 @@ push_node-requires c =
 pub to_usize-requires : goal.to_usize-requires
 to_usize-requires c = edges_natural (counted c.requires)
 
-pub face_of_point-around-requires : goal.face_of_point-around-requires
-face_of_point-around-requires c = let f = c.requires in
-    (rw (edges_read (counted f) c.to_usize.ensures) (edge_rows_lem f), c.point_of.ensures.1)
-
 pub check_room-requires : goal.check_room-requires
 check_room-requires c = let k =
     counted c.requires in
     search rules
+
+pub invariant_of-drawn : goal.invariant_of-drawn
+invariant_of-drawn c =
+    record { ranged = rw (edges_read (counted c.requires) c.to_usize.ensures) (edge_rows_lem c.requires) }

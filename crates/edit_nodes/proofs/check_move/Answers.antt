@@ -47,14 +47,6 @@ returns c =
     (edges_read k c.to_usize-2.ensures) (point_passed c.ranges.x c.ranges.y c.point_of.ensures.0)
     c.if-point_is_taken.false) ∙ first_none)
 
-pub point_is_taken-requires : goal.point_is_taken-requires
-point_is_taken-requires c =
-    let f = c.requires.0 in (
-      rw (nodes_read (counted f) c.to_usize.ensures) (node_rows_lem f),
-      rw (edges_read (counted f) c.to_usize-2.ensures) (edge_rows_lem f),
-      c.point_of.ensures.1,
-    )
-
 pub is_isolated-requires : goal.is_isolated-requires
 is_isolated-requires c = node-row_of (node_rows_lem c.requires.0) c.args.i c.requires.1
 
@@ -63,3 +55,11 @@ to_usize-requires c = nodes_natural (counted c.requires.0)
 
 pub to_usize-requires-2 : goal.to_usize-requires-2
 to_usize-requires-2 c = edges_natural (counted c.requires.0)
+
+pub invariant_of-placed : goal.invariant_of-placed
+invariant_of-placed c =
+    record { ranged = rw (nodes_read (counted c.requires.0) c.to_usize.ensures) (node_rows_lem c.requires.0) }
+
+pub invariant_of-drawn : goal.invariant_of-drawn
+invariant_of-drawn c =
+    record { ranged = rw (edges_read (counted c.requires.0) c.to_usize-2.ensures) (edge_rows_lem c.requires.0) }

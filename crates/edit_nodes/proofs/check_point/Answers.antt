@@ -29,16 +29,16 @@ returns c =
     (point_passed c.ranges.x c.ranges.y c.point_of.ensures.0) c.point_is_taken.ensures c.if-point_is_taken.false)
     ∙ first_none)
 
-pub point_is_taken-requires : goal.point_is_taken-requires
-point_is_taken-requires c =
-    let f = c.requires in (
-      rw (nodes_read (counted f) c.to_usize-n.ensures) (node_rows_lem f),
-      rw (edges_read (counted f) c.to_usize.ensures) (edge_rows_lem f),
-      c.point_of.ensures.1,
-    )
-
 pub to_usize-n-requires : goal.to_usize-n-requires
 to_usize-n-requires c = nodes_natural (counted c.requires)
 
 pub to_usize-requires : goal.to_usize-requires
 to_usize-requires c = edges_natural (counted c.requires)
+
+pub invariant_of-placed : goal.invariant_of-placed
+invariant_of-placed c =
+    record { ranged = rw (nodes_read (counted c.requires) c.to_usize-n.ensures) (node_rows_lem c.requires) }
+
+pub invariant_of-drawn : goal.invariant_of-drawn
+invariant_of-drawn c =
+    record { ranged = rw (edges_read (counted c.requires) c.to_usize.ensures) (edge_rows_lem c.requires) }

@@ -67,10 +67,10 @@ slice_copy_out-number c = let s = c in let r = node-row_of (node_rows_lem s.requ
 pub to_usize-requires : goal.to_usize-requires
 to_usize-requires c = edges_natural (counted c.requires.0)
 
-pub face_of_point-around-requires : goal.face_of_point-around-requires
-face_of_point-around-requires c = let f = c.requires.0 in
-    (rw (edges_read (counted f) c.to_usize.ensures) (edge_rows_lem f), c.point_of.ensures.1)
-
 pub write_node-requires : goal.write_node-requires
 write_node-requires c = let s = c in
     (node-row_of (node_rows_lem s.requires.0) s.args.i s.requires.1).fits
+
+pub invariant_of-drawn : goal.invariant_of-drawn
+invariant_of-drawn c =
+    record { ranged = rw (edges_read (counted c.requires.0) c.to_usize.ensures) (edge_rows_lem c.requires.0) }

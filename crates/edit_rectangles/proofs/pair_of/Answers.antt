@@ -19,7 +19,7 @@ returns-in_default c =
     let s = m in
     let a = s.args in
     sym (ap (pair_found a.edges.now) (place_told edge_width a.edges.now {n = a.count} refl
-    (to_z-of_z {w = w64} s.ranges.edge) m.find_row-found.ensures c.in_default.is))
+    (to_z-of_z {w = w64} s.ranges.edge) m.find_row.ensures c.in_default.is))
 
 placed : (c : goal.In-Some)
     → let a = c.args in
@@ -28,7 +28,7 @@ placed c =
     let m = c in
     let s = m in
     place_told edge_width s.args.edges.now {n = s.args.count} refl (to_z-of_z {w = w64} s.ranges.edge)
-    m.find_row-found.ensures c.in-Some.is
+    m.find_row.ensures c.in-Some.is
 
 pub pair_at-requires : goal.pair_at-requires
 pair_at-requires c =
@@ -43,5 +43,5 @@ returns c =
     let d = c.before in
     c.pair_at.ensures ∙ sym (ap (pair_found d.args.edges.now) (placed d))
 
-pub find_row-found-requires : goal.find_row-found-requires
-find_row-found-requires c = edge_rows_rising c.requires
+pub find_row-requires : goal.find_row-requires
+find_row-requires c = edge_rows_rising c.requires

@@ -49,15 +49,16 @@ pub returns-then-node_at : goal.returns-then-node_at
 returns-then-node_at c =
     let a = c.args in
     sym (first_miss 5 _ _ (range c.ranges.x c.ranges.y c.in_range.ensures c.if-not-in_range.false)
-    ∙ first_hit 10 _ _ (taken c.ranges.x c.ranges.y c.point_of-p.ensures.0 a.nodes.now a.n c.node_at.ensures
-    c.if-node_at.true))
+    ∙ first_hit 10 _ _ (taken c.ranges.x c.ranges.y c.point_of-p.ensures.0 a.nodes.rows.now a.nodes.count
+    c.node_at.ensures c.if-node_at.true))
 
 pub returns-then-not-lies_on : goal.returns-then-not-lies_on
 returns-then-not-lies_on c =
     let a = c.args in
     let p = c.point_of-p.ensures.0 in
     sym (first_miss 5 _ _ (range c.ranges.x c.ranges.y c.in_range.ensures c.if-not-in_range.false)
-    ∙ first_miss 10 _ _ (taken c.ranges.x c.ranges.y p a.nodes.now a.n c.node_at.ensures c.if-node_at.false)
+    ∙ first_miss 10 _ _ (taken c.ranges.x c.ranges.y p a.nodes.rows.now a.nodes.count c.node_at.ensures
+    c.if-node_at.false)
     ∙ first_hit 13 _ _ (lies c.ranges.x c.ranges.y p (edge_at a.edges.now a.i).curve c.lies_on.ensures
     c.if-not-lies_on.true))
 
@@ -66,6 +67,7 @@ returns c =
     let a = c.args in
     let p = c.point_of-p.ensures.0 in
     sym (first_miss 5 _ _ (range c.ranges.x c.ranges.y c.in_range.ensures c.if-not-in_range.false)
-    ∙ first_miss 10 _ _ (taken c.ranges.x c.ranges.y p a.nodes.now a.n c.node_at.ensures c.if-node_at.false)
+    ∙ first_miss 10 _ _ (taken c.ranges.x c.ranges.y p a.nodes.rows.now a.nodes.count c.node_at.ensures
+    c.if-node_at.false)
     ∙ first_miss 13 _ _ (lies c.ranges.x c.ranges.y p (edge_at a.edges.now a.i).curve c.lies_on.ensures
     c.if-not-lies_on.false) ∙ first_none)

@@ -13,10 +13,7 @@ use Rattle.edit_split.proofs.Told.{few_numbers, point_told}
 use Rattle.edit_split.proofs.check_split.Goals as goal
 
 pub check_point-requires : goal.check_point-requires
-check_point-requires c =
-    let f = c.requires.0 in
-    let row = edge-row_of (edge_rows_lem f) c.args.i c.requires.1 in
-    (rw (nodes_read (counted f) c.to_usize.ensures) (node_rows_lem f), row)
+check_point-requires c = edge-row_of (edge_rows_lem c.requires.0) c.args.i c.requires.1
 
 pub check_room-requires : goal.check_room-requires
 check_room-requires c =
@@ -42,3 +39,7 @@ returns c =
 
 pub to_usize-requires : goal.to_usize-requires
 to_usize-requires c = nodes_natural (counted c.requires.0)
+
+pub invariant_of-placed : goal.invariant_of-placed
+invariant_of-placed c =
+    record { ranged = rw (nodes_read (counted c.requires.0) c.to_usize.ensures) (node_rows_lem c.requires.0) }

@@ -80,12 +80,20 @@ pub overflow_cast-face : goal.overflow_cast-face
 overflow_cast-face c =
     rw (to_z-of_z {w = w64} c.ranges.face) ((there c).0, Fits-nat_abs {w = w64} {z = c.args.face} tt c.ranges.face)
 
+pub invariant_of-drawn : goal.invariant_of-drawn
+invariant_of-drawn c =
+    let a = c.args in
+    let k = c.before.before.before.before in
+    let rings = rings_of a.nodes.now a.edges.now a.faces.now a.h (known k) (lent_whole _ (none k)) in
+    record { ranged = rw c.counts_of-c.ensures rings.rows }
+
 pub list_rings-requires : goal.list_rings-requires
 list_rings-requires c =
     let a = c.args in
-    let e = none c.before.before.before.before in (
-      rw c.counts_of-c.ensures (rings_of a.nodes.now a.edges.now a.faces.now a.h (known c.before.before.before.before) (lent_whole _ e)),
-      rw (to_z-of_z {w = w64} c.ranges.face) (there c.before).1,
+    let e = none c.before.before.before.before.before in (
+      rw c.counts_of-c.ensures (rings_of a.nodes.now a.edges.now a.faces.now a.h
+          (known c.before.before.before.before.before) (lent_whole _ e)),
+      rw (to_z-of_z {w = w64} c.ranges.face) (there c.before.before).1,
     )
 
 pub returns : goal.returns
@@ -95,6 +103,7 @@ returns c =
     c.list_rings.ensures
     ∙ ap₂ (λ (n : ℕ) (z : ℤ). list_rings a.edges.now n (nat_abs z) a.list.now)
     (ap (λ (k : Counts). k.edges) c.counts_of-c.ensures) (to_z-of_z {w = w64} c.ranges.face)
-    ∙ sym (from_here l a.face a.list.now (none c.before.before.before.before.before.before) (there c.before.before.before).2
+    ∙ sym (from_here l a.face a.list.now (none c.before.before.before.before.before.before.before)
+    (there c.before.before.before.before).2
     (face_edges (edge_map a.edges.now (nat_abs a.h.edges)) (nat_abs a.face))
     (edges_are a.nodes.now a.edges.now a.faces.now a.h (nat_abs a.face)))

@@ -40,14 +40,14 @@ zero-not k e z = false≢true (sym e ∙ T→≡ (eqb k 0) (rw z (eqb_refl 0)))
 -- the test of the face
 face_is : (c : After-slice_known-2-1) → eqb (of_z w64 c.dart_cell.result)
     (of_z w64 (pos c.args.face))
-    ≡ same (borne c.args.edges.now c.args.count
+    ≡ same (borne c.args.edges.rows.now c.args.edges.count
     c.args.p) c.args.face
 face_is c =
     let s = c in
     let a = s.args in
     let d = c.dart_cell in
     let f = a.face in
-    let b = borne a.edges.now a.count a.p in
+    let b = borne a.edges.rows.now a.edges.count a.p in
     word_test d.result (pos f) (pos b) (pos f) (sfits_of d.type_inv) (record { sfits = omega (arith, s.requires.1) })
     (d.ensures ∙ cell-bears s.requires.0.rows a.p s.requires.2) refl
     ∙ same-pos b f
@@ -60,7 +60,7 @@ overflow_add-result c =
     omega (
       arith,
       m.ensures.0,
-      ring-length a.edges.now a.count (dart_at a.edges.now a.p),
+      ring-length a.edges.rows.now a.edges.count (dart_at a.edges.rows.now a.p),
       s.requires.0.small,
     )
 
@@ -75,17 +75,17 @@ returns-then-dart_cell-face c =
     let y = eqb (get_or a.marks.now a.p 0) 0 in
     let t = c.if-dart_cell-face.true in
     let one = sym (face_is k) ∙ and_left x y t in
-    let e = same_true (borne a.edges.now a.count a.p) f one in
+    let e = same_true (borne a.edges.rows.now a.edges.count a.p) f one in
     let clear = zero_is (get_or a.marks.now a.p 0) (and_right x y t) in
     let g = s.requires.0 in
     let w = s.requires.3 in
     let h = s.requires.2 in
-    let after = marked_places a.edges.now a.count a.p 1 a.marks.now
+    let after = marked_places a.edges.rows.now a.edges.count a.p 1 a.marks.now
     (omega (arith, g.small, w.room)) m.ensures.1 in (
       marked_new g w h e clear _ after.0 after.1,
       inr (
         ap (λ (r : ℕ). r + 1) m.ensures.0,
-        left-taken a.edges.now a.count f a.p h (new_first g w h e clear) one,
+        left-taken a.edges.rows.now a.edges.count f a.p h (new_first g w h e clear) one,
       ),
     )
 
@@ -95,7 +95,7 @@ returns c =
     let s = k in
     let a = s.args in
     let f = a.face in
-    let b = borne a.edges.now a.count a.p in
+    let b = borne a.edges.rows.now a.edges.count a.p in
     let x = eqb (of_z w64 k.dart_cell.result) (of_z w64 (pos a.face)) in
     let y = eqb (get_or a.marks.now a.p 0) 0 in
     let g = s.requires.0 in
@@ -107,9 +107,9 @@ returns c =
           let no = zero-not (get_or a.marks.now a.p 0) (sym (ap (λ (z : Bool). z && y) e) ∙ c.if-dart_cell-face.false) in (
             marked_old g w h one no,
             inl
-                (refl, left-later a.edges.now a.count f a.p h (old_first g w h one no)),
+                (refl, left-later a.edges.rows.now a.edges.count f a.p h (old_first g w h one no)),
           )
       | inr e ↦
           let other = sym (face_is k) ∙ e in
-          (marked_other g w h (differ b f other), inl (refl, left_other a.edges.now a.count f a.p h other))
+          (marked_other g w h (differ b f other), inl (refl, left_other a.edges.rows.now a.edges.count f a.p h other))
     ]

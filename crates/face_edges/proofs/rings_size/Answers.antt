@@ -12,11 +12,11 @@ taken : (c : goal.After-marks-in-loop-p-1) →
     let a = c.args in
     let p = c.loop-p.p in
     let z = c.ring_size-size.result in
-    (length (left a.edges.now a.count a.face p)
-    ≡ z + length (left a.edges.now a.count a.face (p + 1))) × (z ≤ a.count * 2 + 1)
+    (length (left a.edges.rows.now a.edges.count a.face p)
+    ≡ z + length (left a.edges.rows.now a.edges.count a.face (p + 1))) × (z ≤ a.edges.count * 2 + 1)
 taken c =
     let a = c.args in
-    size_left a.edges.now a.count a.face c.loop-p.p
+    size_left a.edges.rows.now a.edges.count a.face c.loop-p.p
     c.ring_size-size.result c.ring_size-size.ensures.1
 
 pub loop-p-init : goal.loop-p-init
@@ -24,7 +24,7 @@ loop-p-init c = let a = c.args in (
   omega arith,
   omega arith,
   omega arith,
-  none_marked a.edges.now a.count a.face,
+  none_marked a.edges.rows.now a.edges.count a.face,
 )
 
 pub ring_size-size-requires : goal.ring_size-size-requires
@@ -52,8 +52,8 @@ pub returns : goal.returns
 returns c =
     let a = c.args in
     let w = c.loop-p in
-    let e = ap length (none_left_lem a.edges.now a.count a.face w.p c.loop-p-test.false) in (
-      omega (arith, w.invariant.1, e) ∙ sym (ap length (all_left a.edges.now a.count a.face)),
+    let e = ap length (none_left_lem a.edges.rows.now a.edges.count a.face w.p c.loop-p-test.false) in (
+      omega (arith, w.invariant.1, e) ∙ sym (ap length (all_left a.edges.rows.now a.edges.count a.face)),
       omega (arith, w.invariant.0, w.invariant.2, c.requires.0.small),
     )
 

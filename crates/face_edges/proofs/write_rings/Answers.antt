@@ -26,9 +26,9 @@ After-marks-in-loop-p-1 = lts.After-marks2 tie.the-claims reads.Pre reads.Post g
 
 -- all of it finds room
 room : (c : goal.Start)
-    → length (left c.args.edges.now c.args.count c.args.face 0) ≤ length c.args.list.now
+    → length (left c.args.edges.rows.now c.args.edges.count c.args.face 0) ≤ length c.args.list.now
 room c = let a = c.args in subst (λ (l : List ℤ). length l ≤ length a.list.now)
-    (all_left a.edges.now a.count a.face) c.requires.2
+    (all_left a.edges.rows.now a.edges.count a.face) c.requires.2
 
 -- the ring that a turn writes: its numbers from `at` on
 record Turn (l : List ℤ) (n f p at r end : ℕ) : Type 0 where
@@ -41,20 +41,20 @@ record Turn (l : List ℤ) (n f p at r end : ℕ) : Type 0 where
 ring-at : (c : After-marks-in-loop-p-1) → 0 < c.ring_size-n.result →
     let a = c.args in
     let w = c.loop-p in
-    Turn a.edges.now a.count a.face w.p w.at c.ring_size-n.result (length w.list)
+    Turn a.edges.rows.now a.edges.count a.face w.p w.at c.ring_size-n.result (length w.list)
 ring-at c h =
     let a = c.args in
     let w = c.loop-p in
     let z = c.ring_size-n in
-    let r = some_size a.edges.now a.count a.face w.p z.result z.ensures.1 h in
+    let r = some_size a.edges.rows.now a.edges.count a.face w.p z.result z.ensures.1 h in
     let is = w.invariant.4 ∙ r.1 in
     let enough = room c.before.before.before.before.before in
-    let k = size a.list.now (left a.edges.now a.count a.face 0) w.at
-    (ring_at a.edges.now a.count w.p) (left a.edges.now a.count a.face (w.p + 1)) is enough in
+    let k = size a.list.now (left a.edges.rows.now a.edges.count a.face 0) w.at
+    (ring_at a.edges.rows.now a.edges.count w.p) (left a.edges.rows.now a.edges.count a.face (w.p + 1)) is enough in
     record {
       size = r.0;
       is = is;
-      most = (size_left a.edges.now a.count a.face w.p z.result z.ensures.1).1;
+      most = (size_left a.edges.rows.now a.edges.count a.face w.p z.result z.ensures.1).1;
       inside = omega (arith, k, r.0);
       room = omega (arith, k, r.0, enough, w.invariant.2);
     }
@@ -66,7 +66,7 @@ loop-p-init c = let a = c.args in (
   refl,
   refl,
   refl,
-  none_marked a.edges.now a.count a.face,
+  none_marked a.edges.rows.now a.edges.count a.face,
 )
 
 pub ring_size-n-requires : goal.ring_size-n-requires
@@ -81,7 +81,6 @@ write_ring-requires c =
     let k = c.before.before in
     let s = k in
     let r = ring-at k c.if-n-gt0.true in (
-      s.requires.0.rows,
       s.requires.0.small,
       k.loop-p-test.true,
       omega (arith, r.size),
@@ -101,9 +100,9 @@ loop-p-preserved c =
     let a = s.args in
     let v = b.loop-p in
     let z = c.ring_size-n in
-    let all = left a.edges.now a.count a.face 0 in
-    let ring = ring_at a.edges.now a.count v.p in
-    let rest = left a.edges.now a.count a.face (v.p + 1) in
+    let all = left a.edges.rows.now a.edges.count a.face 0 in
+    let ring = ring_at a.edges.rows.now a.edges.count v.p in
+    let rest = left a.edges.rows.now a.edges.count a.face (v.p + 1) in
     elim c.if-n-gt0.branch [
       | then-n-gt0 w ↦
           let r = ring-at c.before w.if-n-gt0.true in
@@ -131,7 +130,7 @@ loop-p-preserved c =
             ap length same-list ∙ v.invariant.2,
             same-list ∙ v.invariant.3 ∙ ap (paste a.list.now 0 all) (sym same_at),
             ap (λ (k : ℕ). drop k all) same_at ∙ v.invariant.4
-                ∙ none_size a.edges.now a.count a.face v.p z.result z.ensures.1 w.if-n-gt0.false,
+                ∙ none_size a.edges.rows.now a.edges.count a.face v.p z.result z.ensures.1 w.if-n-gt0.false,
             z.ensures.0,
           )
     ]
@@ -140,10 +139,10 @@ pub returns : goal.returns
 returns c =
     let a = c.args in
     let w = c.loop-p in
-    let e = none_left_lem a.edges.now a.count a.face w.p c.loop-p-test.false in
-    w.invariant.3 ∙ all_written a.list.now (left a.edges.now a.count a.face 0) w.at w.invariant.1
+    let e = none_left_lem a.edges.rows.now a.edges.count a.face w.p c.loop-p-test.false in
+    w.invariant.3 ∙ all_written a.list.now (left a.edges.rows.now a.edges.count a.face 0) w.at w.invariant.1
     (w.invariant.4 ∙ e)
-    ∙ sym (ap (λ (l : List ℤ). l ++ drop (length l) a.list.now) (all_left a.edges.now a.count a.face))
+    ∙ sym (ap (λ (l : List ℤ). l ++ drop (length l) a.list.now) (all_left a.edges.rows.now a.edges.count a.face))
 
 pub overflow_mul-p-end : goal.overflow_mul-p-end
 overflow_mul-p-end c = omega (arith, c.requires.0.small)

@@ -8,9 +8,11 @@ use Rattle.face_edges.proofs.write_rings.Given as goal
 
 abbrev pub invariant-loop-p : goal.invariant-loop-p
 invariant-loop-p l =
-    (l.p ≤ l.count * 2) × (l.at ≤ length (left l.edges l.count l.face 0)) × (length l.list ≡ length l.initial.list)
-    × (l.list ≡ paste l.initial.list 0 (left l.edges l.count l.face 0) l.at)
-    × (drop l.at (left l.edges l.count l.face 0) ≡ left l.edges l.count l.face l.p) × Marked l.edges l.count l.face l.p l.marks
+    let rows = l.edges.rows.now in
+    let n = l.edges.count in
+    (l.p ≤ n * 2) × (l.at ≤ length (left rows n l.face 0)) × (length l.list ≡ length l.initial.list)
+    × (l.list ≡ paste l.initial.list 0 (left rows n l.face 0) l.at)
+    × (drop l.at (left rows n l.face 0) ≡ left rows n l.face l.p) × Marked rows n l.face l.p l.marks
 
 abbrev pub decreases-loop-p : goal.decreases-loop-p
 decreases-loop-p l = l.p-end - l.p

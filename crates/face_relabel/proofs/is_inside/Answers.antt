@@ -1,20 +1,12 @@
 -- `face_relabel::is_inside` meets its contract: the start node is found. Assumes nothing.
-use borrow.Author.Rules.{rules, sfits_of}
-use Rattle.std.specs.Prelude.{Option}
-use mathlib.Core.List.{List}
-use mathlib.Core.Path.{◌≡◌, sym, ap, ◌∙◌}
-use mathlib.Core.Bool.{Bool, cond}
-use Prim.Native.Nat.{ℕ, ◌+◌, ◌*◌}
-use lib.IntN.{ℤ, pos}
+use borrow.Author.Rules.{rules}
+use mathlib.Core.Path.{sym, ap, ◌∙◌}
+use Prim.Native.Nat.{◌+◌, ◌*◌}
+use lib.IntN.{pos}
 use lib.ListN.{get_or}
-use mir.Syntax.{w64}
-use mir.Facts.{to_z-of_z}
 use Rattle.integers.specs.Signs.{sent}
-use Rattle.lists.specs.Tables.{place}
-use Rattle.tables.specs.Tables.{same_z, column}
-use Rattle.map_rows.specs.Rows.{node_at, edge_at}
 use Rattle.map_rows.proofs.Rows.{node-row_of, node_rows_rising}
-use Rattle.face_relabel.specs.Sharing.{ring_encloses, start_of}
+use Rattle.face_relabel.specs.Sharing.{ring_encloses}
 use Rattle.face_relabel.proofs.Faces.{start_found, start_there}
 use Rattle.face_relabel.proofs.is_inside.Goals as goal
 
@@ -24,23 +16,25 @@ find_row-requires c = node_rows_rising c.requires.0.nodes
 pub returns-in_default : goal.returns-in_default
 returns-in_default c =
     let a = c.args in
-    let start = sent {z = get_or a.edges.now (a.i * 32 + 1) (pos 0)} (search rules) in
-    absurd (start_there a.nodes.now a.n a.edges.now a.count a.s c.requires.0 a.i c.requires.1
+    let start = sent {z = get_or a.edges.rows.now (a.i * 32 + 1) (pos 0)} (search rules) in
+    absurd (start_there a.nodes.rows.now a.nodes.count a.edges.rows.now a.edges.count a.s c.requires.0 a.i c.requires.1
     (sym (rw start at c.in_default.ensures)))
 
 pub node_point-requires : goal.node_point-requires
 node_point-requires c =
     let a = c.args in
-    let start = sent {z = get_or a.edges.now (a.i * 32 + 1) (pos 0)} (search rules) in
-    let row = start_found a.nodes.now a.n a.edges.now a.count a.s c.requires.0 a.i c.requires.1 c.in-Some.k
+    let start = sent {z = get_or a.edges.rows.now (a.i * 32 + 1) (pos 0)} (search rules) in
+    let row = start_found a.nodes.rows.now a.nodes.count a.edges.rows.now a.edges.count a.s c.requires.0 a.i
+    c.requires.1 c.in-Some.k
     (sym (rw start at c.in-Some.ensures)) in
     node-row_of c.requires.0.nodes c.in-Some.k row.0
 
 pub returns : goal.returns
 returns c =
     let a = c.args in
-    let start = sent {z = get_or a.edges.now (a.i * 32 + 1) (pos 0)} (search rules) in
-    let row = start_found a.nodes.now a.n a.edges.now a.count a.s c.requires.0 a.i c.requires.1 c.in-Some.k
+    let start = sent {z = get_or a.edges.rows.now (a.i * 32 + 1) (pos 0)} (search rules) in
+    let row = start_found a.nodes.rows.now a.nodes.count a.edges.rows.now a.edges.count a.s c.requires.0 a.i
+    c.requires.1 c.in-Some.k
     (sym (rw start at c.in-Some.ensures)) in
     c.encloses.ensures
-    ∙ ap (ring_encloses a.edges.now a.count a.s.ring) (c.node_point.ensures.0 ∙ sym row.1)
+    ∙ ap (ring_encloses a.edges.rows.now a.edges.count a.s.ring) (c.node_point.ensures.0 ∙ sym row.1)

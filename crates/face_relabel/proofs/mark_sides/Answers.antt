@@ -5,7 +5,7 @@ use mathlib.Core.Path.{sym, ap, ◌∙◌, subst}
 use mathlib.Core.Bool.{Bool, cond, ◌&&◌}
 use mathlib.Core.Logic.{inl, inr}
 use mathlib.Core.List.{List}
-use Prim.Native.Nat.{ℕ, ◌+◌, ◌*◌, ◌-◌, ◌/◌, ◌≤◌}
+use Prim.Native.Nat.{ℕ, ◌+◌, ◌*◌, ◌/◌, ◌≤◌}
 use native.Mathlib.Omega.{arith}
 use lib.Dec.{eqb}
 use lib.ListN.{length, get_or}
@@ -28,7 +28,7 @@ loop-p-init c =
     let a = c.args in
     let h = c.requires in (
       omega arith,
-      marking_start h.0.edges h.1 a.nodes.now a.n a.s.ring a.s.old a.marks.now
+      marking_start h.0.edges h.1 a.nodes.rows.now a.nodes.count a.s.ring a.s.old a.marks.now
           h.2,
     )
 
@@ -36,7 +36,7 @@ pub dart_cell-requires : goal.dart_cell-requires
 dart_cell-requires c =
     let w = c.loop-p in
     let s = c in
-    let h : w.p / 2 * 32 + 32 ≤ length s.args.edges.now =
+    let h : w.p / 2 * 32 + 32 ≤ length s.args.edges.rows.now =
     omega (arith, s.requires.0.edges.fits, c.loop-p-test.true) in
     (h, omega arith)
 
@@ -59,7 +59,7 @@ pub mark_ring-requires : goal.mark_ring-requires
 mark_ring-requires c =
     let t = c in
     let h = t.requires.0 in
-    (h.edges, h.few, t.loop-p-test.true, t.loop-p.invariant.1.whole.room)
+    (h.few, t.loop-p-test.true, t.loop-p.invariant.1.whole.room)
 
 pub loop-p-preserved : goal.loop-p-preserved
 loop-p-preserved c =
@@ -72,7 +72,7 @@ loop-p-preserved c =
     let fits-old : SFits w64 a.s.old = sfits_of c.struct_told-1.given.0.1 in
     let is-old = eqb (of_z w64 cell.result) (of_z w64 a.s.old) in
     let is_none = eqb (get_or w.marks w.p 0) 0 in
-    let Next : List ℕ → Type 0 = λ ms. Marking a.edges.now a.count a.nodes.now a.n a.s.ring
+    let Next : List ℕ → Type 0 = λ ms. Marking a.edges.rows.now a.edges.count a.nodes.rows.now a.nodes.count a.s.ring
     a.s.old a.marks.now ms (w.p + 1) in (
       omega (arith, t.loop-p-test.true),
       elim c.if-dart_cell-s.branch [
@@ -82,20 +82,21 @@ loop-p-preserved c =
             let none = eqb-true (get_or w.marks w.p 0) 0 (and_right is-old is_none x.if-dart_cell-s.true) in
             let mark = x.mark_of-mark in
             let ring = x.mark_ring in
-            let after = marked_places a.edges.now a.count w.p mark.result w.marks
+            let after = marked_places a.edges.rows.now a.edges.count w.p mark.result w.marks
             w.invariant.1.whole.room ring.ensures.1 in
-            subst Next (sym x.marks-is) (marking_ring s.requires.0.edges s.requires.1 a.nodes.now a.n a.s.ring
+            subst Next (sym x.marks-is) (marking_ring s.requires.0.edges s.requires.1 a.nodes.rows.now
+            a.nodes.count a.s.ring
             a.s.old a.marks.now w.marks w.p w.invariant.1 t.loop-p-test.true face none mark.result
             (mark.ensures ∙ ap (λ (b : Bool). cond b 1 2) x.is_inside.ensures) ring.new.marks after.0 after.1)
         | else-dart_cell-s x ↦
             subst Next (sym x.marks-is)
             (elim (which is-old) [
               | inl o ↦
-                  marking_marked s.requires.0.edges s.requires.1 a.nodes.now a.n a.s.ring a.s.old
+                  marking_marked s.requires.0.edges s.requires.1 a.nodes.rows.now a.nodes.count a.s.ring a.s.old
                   a.marks.now w.marks w.p w.invariant.1 t.loop-p-test.true
                   (eqb-false (get_or w.marks w.p 0) 0 (ap (λ (b : Bool). b && is_none) (sym o) ∙ x.if-dart_cell-s.false))
               | inr o ↦
-                  marking_other s.requires.0.edges s.requires.1 a.nodes.now a.n a.s.ring a.s.old
+                  marking_other s.requires.0.edges s.requires.1 a.nodes.rows.now a.nodes.count a.s.ring a.s.old
                   a.marks.now w.marks w.p w.invariant.1 t.loop-p-test.true
                   (λ e. eqb-false _ _ o (ap (of_z w64) (cell.ensures ∙ e)))
             ])

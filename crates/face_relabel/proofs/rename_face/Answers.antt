@@ -1,5 +1,4 @@
 -- `face_relabel::rename_face` meets its contract: a column at a time. Assumes nothing.
-use borrow.Author.Rules.{rules}
 use mathlib.Core.Path.{ap, ◌∙◌}
 use mathlib.Core.List.{List}
 use Prim.Native.Nat.{◌+◌, ◌*◌}

@@ -1,6 +1,5 @@
 -- `face_relabel::share_edges` meets its contract: marks of the two sides of the new edge, of the other rings, and the
 -- numbers of the marks. Assumes nothing.
-use borrow.Author.Rules.{rules}
 use mathlib.Core.Path.{◌≡◌, sym, ap, ◌∙◌}
 use mathlib.Core.Bool.{cond}
 use Prim.Native.Nat.{ℕ, ◌*◌, ◌≤◌, ◌<◌}
@@ -59,7 +58,7 @@ module _ (c : After-mark_ring-2) where
       c.args.s.ring
       c.args.across q)
   both =
-      let b = c.before.before.before in
+      let b = c.before.before.before.before in
       let a = b.args in
       let m = edge_map a.edges.now a.count in
       let after = marked_places a.edges.now a.count a.s.ring 1 b.mark_ring.new.marks
@@ -75,12 +74,12 @@ module _ (c : After-mark_ring-2) where
   room = omega (arith, both.0, c.requires.0.few)
 
 pub mark_ring-requires-2 : goal.mark_ring-requires-2
-mark_ring-requires-2 c = let b = c.before.before in let s = b in
-    (s.requires.0.edges, s.requires.0.few, s.requires.0.ring, room-first b)
+mark_ring-requires-2 c = let b = c.before.before.before in let s = b in
+    (s.requires.0.few, s.requires.0.ring, room-first b)
 
 pub mark_sides-requires : goal.mark_sides-requires
 mark_sides-requires c =
-    let b = c.before.before in
+    let b = c.before.before.before.before in
     let s = b in (
       s.requires.0,
       s.requires.1,
@@ -92,7 +91,7 @@ pub returns : goal.returns
 returns c =
     let w = c in
     let d = w in
-    let b = c.before.before.before.before.before.before.before.before in
+    let b = c.before.before.before.before.before.before.before.before.before.before in
     let s = b in
     let a = s.args in
     w.write_sides.ensures

@@ -3,7 +3,7 @@
 use borrow.Author.Rules.{sfits_of}
 use mathlib.Core.Path.{◌≡◌, refl, sym, ap, ◌∙◌}
 use mathlib.Core.List.{List}
-use Prim.Native.Nat.{ℕ, ◌+◌, ◌*◌, ◌-◌, ◌≤◌}
+use Prim.Native.Nat.{◌+◌, ◌*◌, ◌-◌}
 use native.Mathlib.Nat.{sub-zero}
 use native.Mathlib.Omega.{arith}
 use lib.IntN.{ℤ, pos}
@@ -33,8 +33,8 @@ overflow_add-i c = omega (arith, c.requires.nodes.fits, c.loop-i-test.true)
 pub offset_bounds-nodes-i : goal.offset_bounds-nodes-i
 offset_bounds-nodes-i c = omega (arith, c.requires.nodes.fits, c.loop-i-test.true)
 
-pub slice_copy_out-t-13 : goal.slice_copy_out-t-13
-slice_copy_out-t-13 c = omega (arith, c.requires.nodes.fits, c.loop-i-test.true, c.loop-i.invariant.1)
+pub slice_copy_out-t-14 : goal.slice_copy_out-t-14
+slice_copy_out-t-14 c = omega (arith, c.requires.nodes.fits, c.loop-i-test.true, c.loop-i.invariant.1)
 
 pub node_point-requires : goal.node_point-requires
 node_point-requires c =
@@ -47,7 +47,7 @@ node_point-requires c =
 pub side_of-side-requires : goal.side_of-side-requires
 side_of-side-requires c =
     let s = c in
-    (s.requires.edges, s.requires.few, s.requires.ring, c.node_point.ensures.1)
+    (s.requires.few, s.requires.ring, c.node_point.ensures.1)
 
 pub overflow_mul-side : goal.overflow_mul-side
 overflow_mul-side c = let t = c in
@@ -73,7 +73,7 @@ loop-i-preserved c =
     let s = t in
     let a = s.args in
     let fits-old : SFits w64 a.s.old = sfits_of c.struct_told-1.given.0.1 in
-    let fits-z : SFits w64 (get_or w.nodes (w.i * 4 + 3) (pos 0)) = sfits_of b.t13-1.given in
+    let fits-z : SFits w64 (get_or w.nodes (w.i * 4 + 3) (pos 0)) = sfits_of b.t14-1.given in
     let turn : c.if-nodes-i.nodes ≡ node_shared a.nodes.now a.n a.edges.now a.count a.s w.nodes w.i =
     elim c.if-nodes-i.branch [
       | then-nodes-i x ↦

@@ -1,23 +1,11 @@
 -- `face_relabel::share_nodes` meets its contract: a sweep of the rows left, which are as they were, from what those
 -- passed left, is the sweep of all. Assumes nothing.
-use borrow.Author.Rules.{sfits_of}
-use mathlib.Core.Path.{◌≡◌, refl, sym, ap, ◌∙◌}
-use mathlib.Core.Logic.{⊎_elim}
-use mathlib.Core.List.{List}
-use Prim.Native.Nat.{ℕ, ◌+◌, ◌*◌, ◌-◌, ◌≤◌}
-use native.Mathlib.Nat.{sub-zero}
-use native.Mathlib.Omega.{arith}
-use lib.IntN.{ℤ, pos}
+use mathlib.Core.Path.{◌≡◌}
+use Prim.Native.Nat.{ℕ, ◌*◌, ◌-◌, ◌≤◌}
+use lib.IntN.{pos}
 use lib.ListN.{length, get_or}
-use mir.Syntax.{w64}
-use mir.Val.{to_z, of_z, SFits}
-use Rattle.integers.specs.Signs.{sent}
 use Rattle.lists.specs.Tables.{sweep}
-use Rattle.lists.proofs.Scans.{sweep_step, sweep-end}
-use Rattle.tables.proofs.Order.{word_is}
-use Rattle.map_rows.proofs.Rows.{node-row_of}
 use Rattle.face_relabel.specs.Sharing.{node_shared}
-use Rattle.face_relabel.proofs.Faces.{row_kept, node_hit, node_miss, node-length, node_kept}
 use Rattle.face_relabel.proofs.share_nodes.Given as goal
 
 abbrev pub invariant-loop-i : goal.invariant-loop-i

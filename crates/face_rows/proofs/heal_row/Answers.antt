@@ -1,5 +1,4 @@
 -- `face_rows::heal_row` meets its contract: both faces go and one comes, or the higher goes. Assumes nothing.
-use borrow.Author.Rules.{rules}
 use mathlib.Core.Path.{◌≡◌, sym, ap, ◌∙◌}
 use mathlib.Core.Bool.{Bool, true, cond}
 use mathlib.Core.List.{List}

@@ -1,6 +1,5 @@
 -- `face_rows::remove_face` meets its contract: the row is found and closed up, or the face has none. Assumes nothing.
 use Rattle.std.specs.Prelude.{Some}
-use borrow.Author.Rules.{rules}
 use mathlib.Core.Path.{◌≡◌, refl, ◌∙◌}
 use lib.IntN.{pos, nat_abs}
 use mir.Syntax.{w64}

@@ -1,5 +1,4 @@
 -- `face_rows::rename_faces` meets its contract: left and then right renamed. Assumes nothing.
-use borrow.Author.Rules.{rules}
 use mathlib.Core.Path.{◌≡◌, sym, ap, ◌∙◌}
 use mathlib.Core.List.{List}
 use lib.IntN.{ℤ, pos, nat_abs}

@@ -1,5 +1,4 @@
 -- `face_rows::share_rows` meets its contract: the nodes shared out, and then the edges. Assumes nothing.
-use borrow.Author.Rules.{rules}
 use mathlib.Core.Path.{ap, ◌∙◌}
 use Prim.Native.Nat.{ℕ, ◌*◌}
 use Rattle.lists.specs.Tables.{sweep}

@@ -1,5 +1,4 @@
 -- `face_rows::split_face` meets its contract. Assumes nothing.
-use borrow.Author.Rules.{rules}
 use mathlib.Core.Path.{◌≡◌, sym, ap, ◌∙◌, subst}
 use mathlib.Core.Bool.{Bool}
 use Prim.Native.Nat.{◌*◌, ◌-◌}
@@ -39,10 +38,13 @@ next s = let k = s.requires.held.counted.next_face in count_back s.args.h.next_f
 
 pub sides_of-s-requires : goal.sides_of-s-requires
 sides_of-s-requires c =
-    let s = c.before.before.before.before in
+    let s = c.before.before.before.before.before in
     let k = s.requires.held in
     rw (c.counts_of-n.ensures, next s)
-    (k.edge_rows_lem, s.requires.drawn, k.counted.edges.most, k.counted.next_face.natural, k.counted.next_face.most)
+    (s.requires.drawn, k.counted.edges.most, k.counted.next_face.natural, k.counted.next_face.most)
+
+pub invariant_of-drawn : goal.invariant_of-drawn
+invariant_of-drawn c = record { ranged = rw c.counts_of-n.ensures c.requires.held.edge_rows_lem }
 
 -- the left ring's doubled area is positive
 abbrev is_left : goal.Start → Bool
@@ -52,18 +54,18 @@ is_left s =
     is_positive (sgn (ring_area es (ring es (dart_at l ((nat_abs s.args.h.edges - 1) * 2)))))
 
 sides : (c : After-sides_of-s)
-    → let s = c.before.before.before.before in
+    → let s = c.before.before.before.before.before in
     let a = s.args in
     c.sides_of-s.result ≡ sides_of (is_left s) c.face_goes-goes.result ((nat_abs a.h.edges - 1) * 2)
     a.old a.h.next_face
 sides c =
-    let s = c.before.before.before.before in
+    let s = c.before.before.before.before.before in
     rw (c.counts_of-n.ensures, old s, next s) at c.sides_of-s.ensures
 
 pub share_rows-requires : goal.share_rows-requires
 share_rows-requires c =
     let d = c.before.before.before in
-    let s = d.before.before.before.before in
+    let s = d.before.before.before.before.before in
     let a = s.args in
     let shared = subst (ShareableFace a.nodes.now (nat_abs a.h.nodes) a.edges.now (nat_abs a.h.edges))
     (sym (sides d)) (sides_shared s.requires (is_left s) d.face_goes-goes.result) in
@@ -73,7 +75,7 @@ share_rows-requires c =
 pub split_row-requires : goal.split_row-requires
 split_row-requires c =
     let n = c in
-    let s = c.before.before.before.before.before.before.before.before.before.before.before in
+    let s = c.before.before.before.before.before.before.before.before.before.before.before.before in
     let k = s.requires.held in
     rw (n.counts_of-n.ensures, old s, next s)
     (record {
@@ -90,7 +92,7 @@ returns c box none t =
     let d = c.before.before.before.before.before.before.before.before.before in
     let g = d in
     let n = g in
-    let s = d.before.before.before.before in
+    let s = d.before.before.before.before.before in
     let a = s.args in
     let count = n.counts_of-n.ensures in
     let rows = c.share_rows.ensures

@@ -10,11 +10,11 @@ use Rattle.links.proofs.departures_at.Given as goal
 
 abbrev pub invariant-loop-i : goal.invariant-loop-i
 invariant-loop-i l =
-    (l.i ≤ l.count) × (l.k ≤ l.i * 2) × (length l.list ≡ length l.initial.list)
-    × (sets l.list l.k (left (leaves_node l.edges l.node) (l.i * 2) (l.count * 2))
-    ≡ sets l.initial.list 0 (departures_of l.edges l.count l.node))
-    × (l.k + length (left (leaves_node l.edges l.node) (l.i * 2) (l.count * 2))
-    ≡ length (departures_of l.edges l.count l.node))
+    (l.i ≤ l.edges.count) × (l.k ≤ l.i * 2) × (length l.list ≡ length l.initial.list)
+    × (sets l.list l.k (left (leaves_node l.edges.rows.now l.node) (l.i * 2) (l.edges.count * 2))
+    ≡ sets l.initial.list 0 (departures_of l.edges.rows.now l.edges.count l.node))
+    × (l.k + length (left (leaves_node l.edges.rows.now l.node) (l.i * 2) (l.edges.count * 2))
+    ≡ length (departures_of l.edges.rows.now l.edges.count l.node))
 
 abbrev pub decreases-loop-i : goal.decreases-loop-i
-decreases-loop-i l = l.count - l.i
+decreases-loop-i l = l.edges.count - l.i

@@ -17,14 +17,8 @@ use Rattle.lists.proofs.Counts.{byte_bit, byte_most}
 use Rattle.links.specs.Linking.{positions, leaves_node}
 use Rattle.links.proofs.edge_ends.Goals as goal
 
-pub overflow_mul-p-end : goal.overflow_mul-p-end
-overflow_mul-p-end c = omega (arith, c.requires.fits)
-
 pub loop-p-init : goal.loop-p-init
 loop-p-init c = (omega arith, omega arith, rw (zero-add, sub-zero))
-
-pub dart_cell-requires : goal.dart_cell-requires
-dart_cell-requires c = omega (arith, c.requires.fits)
 
 pub overflow_cast-n : goal.overflow_cast-n
 overflow_cast-n c =
@@ -34,10 +28,7 @@ overflow_cast-n c =
 pub overflow_add-n : goal.overflow_add-n
 overflow_add-n c =
     let test = same_word c.dart_cell.result c.args.node in
-    omega (arith, byte_most (test), c.requires.fits)
-
-pub overflow_step-p : goal.overflow_step-p
-overflow_step-p c = omega (arith, c.requires.fits)
+    omega (arith, byte_most (test), c.args.edges.ranged.fits)
 
 pub loop-p-preserved : goal.loop-p-preserved
 loop-p-preserved c =
@@ -45,12 +36,12 @@ loop-p-preserved c =
     let s = c in
     let a = s.args in
     let l = c.loop-p in
-    let f = leaves_node a.edges.now (to_z w64 (of_z w64 a.node)) in
+    let f = leaves_node a.edges.rows.now (to_z w64 (of_z w64 a.node)) in
     let here : bool_byte (test) ≡ bit (f l.p) = byte_bit (test)
-    ∙ ap bit (cell_test c.dart_cell.result a.node (side_cell a.edges.now l.p 1)
+    ∙ ap bit (cell_test c.dart_cell.result a.node (side_cell a.edges.rows.now l.p 1)
     (sfits_of c.dart_cell.type_inv) s.ranges.node c.dart_cell.ensures) in
-    let rest = count_of f (table (λ q. q) (l.p + 1) (a.count * 2 - (l.p + 1))) in
-    let step = count_step (λ q. q) l.p (a.count * 2) f c.loop-p-test.true in (
+    let rest = count_of f (table (λ q. q) (l.p + 1) (a.edges.count * 2 - (l.p + 1))) in
+    let step = count_step (λ q. q) l.p (a.edges.count * 2) f c.loop-p-test.true in (
       omega arith,
       omega (arith, byte_most (test)),
       (let e = l.invariant.2 in omega arith),
@@ -60,9 +51,9 @@ pub returns : goal.returns
 returns c =
     let a = c.args in
     let l = c.loop-p in
-    let end = count_end (λ q. q) l.p (a.count * 2) (leaves_node a.edges.now (to_z w64 (of_z w64 a.node)))
+    let end = count_end (λ q. q) l.p (a.edges.count * 2) (leaves_node a.edges.rows.now (to_z w64 (of_z w64 a.node)))
     c.loop-p-test.false in
     let e = l.invariant.2 in
-    let k : l.n ≡ count_of (leaves_node a.edges.now (to_z w64 (of_z w64 a.node))) (positions a.count) =
+    let k : l.n ≡ count_of (leaves_node a.edges.rows.now (to_z w64 (of_z w64 a.node))) (positions a.edges.count) =
     omega arith in
     (rw (to_z-of_z {w = w64} c.ranges.node) at k, omega arith)

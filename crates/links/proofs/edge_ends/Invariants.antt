@@ -8,8 +8,8 @@ use Rattle.links.proofs.edge_ends.Given as goal
 
 abbrev pub invariant-loop-p : goal.invariant-loop-p
 invariant-loop-p l =
-    (l.p ≤ l.count * 2) × (l.n ≤ l.p) × (l.n + count_of (leaves_node l.edges l.node) (table (λ q. q) l.p (l.count * 2 - l.p))
-    ≡ count_of (leaves_node l.edges l.node) (positions l.count))
+    (l.p ≤ l.edges.count * 2) × (l.n ≤ l.p) × (l.n + count_of (leaves_node l.edges.rows.now l.node) (table (λ q. q) l.p (l.edges.count * 2 - l.p))
+    ≡ count_of (leaves_node l.edges.rows.now l.node) (positions l.edges.count))
 
 abbrev pub decreases-loop-p : goal.decreases-loop-p
 decreases-loop-p l = l.p-end - l.p

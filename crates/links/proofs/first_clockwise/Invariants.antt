@@ -7,7 +7,7 @@ use Rattle.links.proofs.first_clockwise.Given as goal
 
 abbrev pub invariant-loop-i : goal.invariant-loop-i
 invariant-loop-i l =
-    (l.i ≤ l.count) × Passed (way_with l.edges l.own l.c) (way_to l.v.from l.v.to) l.edges l.node l.a l.b (l.count * 2) l.h (l.i * 2)
+    (l.i ≤ l.edges.count) × Passed (way_with l.edges.rows.now l.own l.c) (way_to l.v.from l.v.to) l.edges.rows.now l.node l.a l.b (l.edges.count * 2) l.h (l.i * 2)
 
 abbrev pub decreases-loop-i : goal.decreases-loop-i
-decreases-loop-i l = l.count - l.i
+decreases-loop-i l = l.edges.count - l.i

@@ -16,11 +16,10 @@ use Rattle.links.proofs.FirstMet.{met-same, leaving_below, with_none}
 use Rattle.links.proofs.met.Goals as goal
 
 pub step_at-v-requires : goal.step_at-v-requires
-step_at-v-requires c = let s = c in edge-row_of s.requires.0 (s.args.p / 2) (let h = s.requires.1 in omega arith)
+step_at-v-requires c = let s = c in edge-row_of s.args.edges.ranged (s.args.p / 2) (let h = s.requires in omega arith)
 
 pub first_clockwise-requires : goal.first_clockwise-requires
 first_clockwise-requires c = (
-  c.requires.0,
   (λ h. absurd (omega arith)),
   (c.step_at-v.ensures.from, c.step_at-v.ensures.to),
 )
@@ -29,8 +28,8 @@ pub returns : goal.returns
 returns c =
     let b = c in
     let a = b.args in
-    let l = a.edges.now in
-    let n = a.count in
+    let l = a.edges.rows.now in
+    let n = a.edges.count in
     let node = b.dart_cell-node in
     let e : to_z w64 (of_z w64 node.result) ≡ side_cell l a.p 1 = to_z-of_z {w = w64} (sfits_of node.type_inv)
     ∙ node.ensures in

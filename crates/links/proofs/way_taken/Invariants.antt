@@ -15,8 +15,8 @@ any_from f p n = any_of f (table (λ q. q) p (n - p))
 
 abbrev pub invariant-loop-i : goal.invariant-loop-i
 invariant-loop-i l =
-    let f = taken l.edges l.node l.own (way_to l.v.from l.v.to) in
-    (l.i ≤ l.count) × (any_from f (l.i * 2) (l.count * 2) ≡ any_of f (positions l.count))
+    let f = taken l.edges.rows.now l.node l.own (way_to l.v.from l.v.to) in
+    (l.i ≤ l.edges.count) × (any_from f (l.i * 2) (l.edges.count * 2) ≡ any_of f (positions l.edges.count))
 
 abbrev pub decreases-loop-i : goal.decreases-loop-i
-decreases-loop-i l = l.count - l.i
+decreases-loop-i l = l.edges.count - l.i

@@ -27,8 +27,8 @@ loop-i-init c =
     let a = c.args in (
       omega arith,
       tt,
-      rw sub-zero (sym (face_fold (edge_map a.edges.now a.count) a.p
-          ∙ ap (λ r. upper (fold (rowed a.p) None r)) (edges_table a.edges.now a.count))),
+      rw sub-zero (sym (face_fold (edge_map a.edges.rows.now a.edges.count) a.p
+          ∙ ap (λ r. upper (fold (rowed a.p) None r)) (edges_table a.edges.rows.now a.edges.count))),
     )
 
 pub loop-i-preserved : goal.loop-i-preserved
@@ -38,7 +38,7 @@ loop-i-preserved c =
       omega arith,
       c.floor_over-best.ensures.1,
       rw c.floor_over-best.ensures.0 (sym
-          (ap upper (fold_step (edge_at a.edges.now) _ _ (rowed a.p) (highest_floor b.loop-i.best)
+          (ap upper (fold_step (edge_at a.edges.rows.now) _ _ (rowed a.p) (highest_floor b.loop-i.best)
           c.loop-i-test.true)) ∙ b.loop-i.invariant.2),
     )
 
@@ -66,4 +66,4 @@ overflow_cast-result c =
 
 pub floor_over-best-requires : goal.floor_over-best-requires
 floor_over-best-requires c =
-    (c.loop-i.invariant.1, c.requires.1, edge-row_of c.requires.0 _ c.loop-i-test.true)
+    (c.loop-i.invariant.1, c.requires, edge-row_of c.args.edges.ranged _ c.loop-i-test.true)

@@ -13,9 +13,9 @@ use Rattle.point_location.proofs.face_of_point.Given as goal
 
 abbrev pub invariant-loop-i : goal.invariant-loop-i
 invariant-loop-i l =
-    (l.i ≤ l.count) × IfSome l.best HighestFits
-    × (upper (fold (rowed l.p) (highest_floor l.best) (table (edge_at l.edges) l.i (l.count - l.i)))
-    ≡ face_of_point (edge_map l.edges l.count) l.p)
+    (l.i ≤ l.edges.count) × IfSome l.best HighestFits
+    × (upper (fold (rowed l.p) (highest_floor l.best) (table (edge_at l.edges.rows.now) l.i (l.edges.count - l.i)))
+    ≡ face_of_point (edge_map l.edges.rows.now l.edges.count) l.p)
 
 abbrev pub decreases-loop-i : goal.decreases-loop-i
-decreases-loop-i l = l.count - l.i
+decreases-loop-i l = l.edges.count - l.i

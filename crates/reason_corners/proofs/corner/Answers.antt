@@ -1,7 +1,5 @@
 -- `reason_corners::corner` meets its contract. Assumes nothing.
-use Rattle.std.specs.Prelude.{Some, None}
-use borrow.Author.Rules.{rules}
-use mathlib.Core.Path.{◌≡◌, sym, ap, ap₂, ◌∙◌}
+use mathlib.Core.Path.{◌≡◌, ap, ap₂, ◌∙◌}
 use mathlib.Core.Bool.{◌&&◌, true}
 use mathlib.Core.List.{List}
 use Prim.Native.Nat.{ℕ, ◌*◌}
@@ -14,10 +12,9 @@ use Rattle.lists.proofs.Keeps.{keep_cong}
 use Rattle.plane.specs.Directions.{Way}
 use Rattle.curves.specs.Curves.{curve_of, start_way}
 use Rattle.curves.specs.Edits.{course}
-use Rattle.rotation.specs.Law.{first_clockwise}
 use Rattle.darts.specs.Positions.{way_with}
 use Rattle.links.specs.Linking.{positions, leaves_node, departures_but, first_met}
-use Rattle.links.proofs.FirstMet.{met_at, met_none, first_none, position_below}
+use Rattle.links.proofs.FirstMet.{position_below}
 use Rattle.reason_corners.specs.Drawing.{departing}
 use Rattle.reason_corners.proofs.corner.Goals as goal
 
@@ -32,9 +29,10 @@ leaving_all l e z =
 pub returns : goal.returns
 returns c =
     let a = c.args in
-    let w = way_with a.edges.now a.e a.c.now in
+    let w = way_with a.edges.rows.now a.edges.count a.c.now in
     let v = start_way (course a.back (curve_of a.c.now)) in
     c.first_clockwise.ensures
-    ∙ ap₂ (λ (v : Way) (z : ℤ). first_met w v (departures_but a.edges.now a.e z (a.e * 2) (a.e * 2)))
+    ∙ ap₂ (λ (v : Way) (z : ℤ). first_met w v
+    (departures_but a.edges.rows.now a.edges.count z (a.edges.count * 2) (a.edges.count * 2)))
     c.first_step.ensures.way (to_z-of_z {w = w64} c.ranges.node)
-    ∙ ap (first_met w v) (leaving_all a.edges.now a.e a.node)
+    ∙ ap (first_met w v) (leaving_all a.edges.rows.now a.edges.count a.node)

@@ -8,6 +8,7 @@ use lib.IntN.{ℤ, pos}
 use lib.ListN.{get_or}
 use mir.Syntax.{w64}
 use mir.Val.{to_z, of_z}
+use mir.Facts.{to_z-of_z}
 use Rattle.integers.specs.Signs.{sent}
 use Rattle.plane.specs.Directions.{way_to}
 use Rattle.darts.specs.Positions.{way_at}
@@ -24,22 +25,19 @@ use Rattle.reason_corners.proofs.corner_face.Goals as goal
 abbrev After-first_clockwise : Type 0
 After-first_clockwise = lts.After-first_clockwise tie.the-claims reads.Pre reads.Post
 
-pub first_clockwise-requires : goal.first_clockwise-requires
-first_clockwise-requires c = let s = c in
-    (s.requires.1, (λ h. absurd (omega arith)), (s.requires.2, s.requires.3))
-
 -- what the search answers
 found : (c : After-first_clockwise)
     → let a = c.args in c.first_clockwise.result
-    ≡ first_met (way_at a.edges.now) (way_to a.v.from a.v.to)
-    (departures_but a.edges.now a.count (get_or a.nodes.now (a.i * 4) (pos 0)) (a.count * 2) (a.count * 2))
+    ≡ first_met (way_at a.edges.rows.now) (way_to a.v.from a.v.to)
+    (departures_but a.edges.rows.now a.edges.count (get_or a.nodes.now (a.i * 4) (pos 0))
+    (a.edges.count * 2) (a.edges.count * 2))
 found c =
     let a = c.args in
-    let l = a.edges.now in
-    let n = a.count in
+    let l = a.edges.rows.now in
+    let n = a.edges.count in
     let v = way_to a.v.from a.v.to in
     let z = get_or a.nodes.now (a.i * 4) (pos 0) in
-    let e : to_z w64 (of_z w64 z) ≡ z = sent c.first_clockwise-arg-2-1.given in
+    let e : to_z w64 (of_z w64 z) ≡ z = to_z-of_z {w = w64} (search rules) in
     c.first_clockwise.ensures ∙ met_alike l n (to_z w64 (of_z w64 z)) (n * 2) (n * 2) v
     ∙ ap (λ (x : ℤ). first_met (way_at l) v (departures_but l n x (n * 2) (n * 2))) e
 
@@ -49,21 +47,14 @@ dart_cell-requires c =
     let q = f.in-Some.p in
     let s = f in
     let a = s.args in
-    let b = met_below a.edges.now a.count (get_or a.nodes.now (a.i * 4) (pos 0)) (a.count * 2)
-    (a.count * 2) (way_to a.v.from a.v.to) q (sym (found c.before) ∙ f.in-Some.is) in
-    let h = half_below a.count q b in
-    (omega (arith, s.requires.1.fits), omega arith)
+    let b = met_below a.edges.rows.now a.edges.count (get_or a.nodes.now (a.i * 4) (pos 0)) (a.edges.count * 2)
+    (a.edges.count * 2) (way_to a.v.from a.v.to) q (sym (found c.before.before) ∙ f.in-Some.is) in
+    let h = half_below a.edges.count q b in
+    (omega (arith, s.args.edges.ranged.fits), omega arith)
 
 pub returns-in-Some : goal.returns-in-Some
 returns-in-Some c =
     let f = c in
     let a = f.args in
     sent c.dart_cell.type_inv ∙ c.dart_cell.ensures
-    ∙ ap (corner_by a.nodes.now a.i a.edges.now) (sym f.in-Some.is ∙ found c.before.before)
-
-pub returns-in-None : goal.returns-in-None
-returns-in-None c =
-    let f = c in
-    let a = f.args in
-    sent c.result-1.given ∙ ap (corner_by a.nodes.now a.i a.edges.now)
-    (sym f.in-None.is ∙ found c.before.before)
+    ∙ ap (corner_by a.nodes.now a.i a.edges.rows.now) (sym f.in-Some.is ∙ found c.before.before.before)

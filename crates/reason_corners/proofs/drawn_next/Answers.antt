@@ -1,5 +1,4 @@
 -- `reason_corners::drawn_next` meets its contract. Assumes nothing.
-use borrow.Author.Rules.{rules}
 use Prim.Native.Nat.{◌+◌, ◌*◌, ◌<◌}
 use native.Mathlib.Omega.{arith}
 use Rattle.reason_corners.proofs.Places.{instead_below}
@@ -14,9 +13,9 @@ pub returns-then-p-own-2 : goal.returns-then-p-own-2
 returns-then-p-own-2 c =
     let s = c in
     let a = s.args in
-    let below : c.instead.result < a.e * 2 + 2 =
-    rw c.instead.ensures (instead_below (a.e * 2 + 2) a.k.start a.k.end (a.e * 2 + 1) s.requires.0.start
-    (omega arith)) in (
+    let below : c.instead.result < a.edges.count * 2 + 2 =
+    rw c.instead.ensures (instead_below (a.edges.count * 2 + 2) a.k.start a.k.end (a.edges.count * 2 + 1)
+    s.requires.0.start (omega arith)) in (
       below,
       λ new m j. follows_backward s.requires.0.rows j s.requires.0.start s.requires.0.end a.p c.instead.result
           c.if-p-own-2.true c.instead.ensures,
@@ -31,21 +30,14 @@ returns c =
     let x = c.if-p-own.false in
     let y = c.if-p-own-2.false in
     let hq = q.ensures.0 in
-    let hp : a.p < a.e * 2 = let h = s.requires.1 in omega arith in
-    let mid : i.result < a.e * 2 + 2 =
-    rw i.ensures (instead_below (a.e * 2 + 2) q.result a.k.start (a.e * 2) (omega arith) (omega arith)) in
-    let below : c.instead-2.result < a.e * 2 + 2 =
-    rw c.instead-2.ensures (instead_below (a.e * 2 + 2) i.result a.k.end (a.e * 2 + 1) mid
+    let hp : a.p < a.edges.count * 2 = let h = s.requires.1 in omega arith in
+    let mid : i.result < a.edges.count * 2 + 2 =
+    rw i.ensures (instead_below (a.edges.count * 2 + 2) q.result a.k.start (a.edges.count * 2)
+    (omega arith) (omega arith)) in
+    let below : c.instead-2.result < a.edges.count * 2 + 2 =
+    rw c.instead-2.ensures (instead_below (a.edges.count * 2 + 2) i.result a.k.end (a.edges.count * 2 + 1) mid
     (omega arith)) in (
       below,
       λ new m j. follows_other s.requires.0.rows j s.requires.0.start s.requires.0.end a.p q.result i.result
           c.instead-2.result hp hq q.ensures.1 i.ensures c.instead-2.ensures,
     )
-
-pub next_position-requires : goal.next_position-requires
-next_position-requires c =
-    let s = c in
-    let x = c.if-p-own.false in
-    let y = c.if-p-own-2.false in
-    let h = s.requires.1 in
-    (s.requires.0.rows, s.requires.0.few, omega arith)

@@ -13,11 +13,5 @@ pub returns : goal.returns
 returns c =
     let a = c.args in
     c.check_contact.ensures ∙ ap contact_reason c.edge_meeting.ensures
-    ∙ sym (first_contact (edge_meeting (edges_but a.edges.now a.count a.own) (curve_of a.c.now)))
+    ∙ sym (first_contact (edge_meeting (edges_but a.edges.rows.now a.edges.count a.own) (curve_of a.c.now)))
     ∙ sym (first_miss 14 _ _ (sym c.node_inside.ensures ∙ c.if-node_inside.false))
-
-pub node_inside-requires : goal.node_inside-requires
-node_inside-requires c = (c.requires.0, c.requires.2)
-
-pub edge_meeting-requires : goal.edge_meeting-requires
-edge_meeting-requires c = (c.requires.1, c.requires.2)

@@ -2,15 +2,12 @@
 -- other edges from row i on is the whole. Assumes nothing.
 use mathlib.Core.Path.{◌≡◌, sym, ap, ap₂, ◌∙◌}
 use mathlib.Core.Bool.{true, false, not}
-use mathlib.Core.Logic.{⊎_elim}
-use mathlib.Core.List.{List, map}
-use Prim.Native.Nat.{ℕ, ◌+◌, ◌-◌, ◌≤◌, ◌<◌}
+use mathlib.Core.List.{List}
+use Prim.Native.Nat.{ℕ, ◌+◌, ◌≤◌, ◌<◌}
 use native.Mathlib.Nat.{sub-zero}
 use native.Mathlib.Omega.{arith}
 use lib.IntN.{ℤ}
 use Rattle.lists.specs.Tests.{same}
-use Rattle.lists.specs.Scans.{keep}
-use Rattle.lists.specs.Tables.{table}
 use Rattle.lists.proofs.Bools.{same_eq, same_false}
 use Rattle.lists.proofs.Scans.{table_step, table-end}
 use Rattle.plane.specs.declared.Contact.{Contact}
@@ -20,7 +17,6 @@ use Rattle.curves.proofs.Meetings.{graver_none, graver_assoc}
 use Rattle.map.specs.Reasons.{edge_meeting}
 use Rattle.map_rows.specs.Rows.{edge_at}
 use Rattle.map_rows.proofs.Rows.{edge-row_of}
-use Rattle.reason_curves.specs.Sent.{edges_but}
 use Rattle.reason_curves.proofs.edge_meeting.Invariants.{from}
 use Rattle.reason_curves.proofs.edge_meeting.Goals as goal
 use Rattle.reason_curves.proofs.edge_meeting.Goals.{then-i-own, else-i-own}
@@ -47,17 +43,17 @@ pub loop-i-preserved : goal.loop-i-preserved
 loop-i-preserved c =
     let b = c in
     let a = b.args in
-    let l = a.edges.now in
+    let l = a.edges.rows.now in
     let d = curve_of a.c.now in
     let t = c.loop-i-test.true in (
       omega arith,
       elim c.if-i-own.branch [
         | then-i-own k ↦
-            ap (λ (x : Contact). graver x (from l a.count a.own d (b.loop-i.i + 1)))
+            ap (λ (x : Contact). graver x (from l a.edges.count a.own d (b.loop-i.i + 1)))
             (k.found-is ∙ k.row_meeting-found.ensures)
-            ∙ another l a.count a.own d b.loop-i.i b.loop-i.found t (ap not (same_false _ _ k.if-i-own.true))
+            ∙ another l a.edges.count a.own d b.loop-i.i b.loop-i.found t (ap not (same_false _ _ k.if-i-own.true))
         | else-i-own k ↦
-            ap₂ graver k.found-is (own_row l a.count a.own d b.loop-i.i t (ap not (same_eq _ _ k.if-i-own.false)))
+            ap₂ graver k.found-is (own_row l a.edges.count a.own d b.loop-i.i t (ap not (same_eq _ _ k.if-i-own.false)))
       ]
           ∙ b.loop-i.invariant.1,
     )
@@ -65,12 +61,9 @@ loop-i-preserved c =
 pub returns : goal.returns
 returns c =
     let a = c.args in
-    sym (over a.edges.now a.count a.own (curve_of a.c.now) c.loop-i.i _ c.loop-i-test.false)
+    sym (over a.edges.rows.now a.edges.count a.own (curve_of a.c.now) c.loop-i.i _ c.loop-i-test.false)
     ∙ c.loop-i.invariant.1
-
-pub extent_of-e-requires : goal.extent_of-e-requires
-extent_of-e-requires c = c.requires.1
 
 pub row_meeting-found-requires : goal.row_meeting-found-requires
 row_meeting-found-requires c = let s = c in
-    (edge-row_of s.requires.0 _ c.loop-i-test.true, s.requires.1, s.extent_of-e.ensures)
+    (edge-row_of s.args.edges.ranged _ c.loop-i-test.true, s.requires, s.extent_of-e.ensures)

@@ -2,18 +2,16 @@
 -- Assumes nothing.
 use mathlib.Core.Path.{◌≡◌, sym, ap, ◌∙◌}
 use mathlib.Core.Bool.{Bool, false, not, ◌&&◌}
-use Prim.Native.Nat.{◌-◌, ◌≤◌}
 use native.Mathlib.Nat.{sub-zero}
 use native.Mathlib.Omega.{arith}
 use Rattle.lists.specs.Scans.{any_of}
-use Rattle.lists.specs.Tables.{table}
 use Rattle.lists.proofs.Scans.{any_hit, any_miss, any_end}
 use Rattle.plane.specs.declared.Point.{Point}
 use Rattle.curves.specs.Curves.{Curve, curve_of}
 use Rattle.curves.specs.Tests.{on_curve}
 use Rattle.map.specs.Rows.{Node}
 use Rattle.map.specs.Reasons.{node_inside, is_end}
-use Rattle.map_rows.specs.Rows.{node_at, node_map}
+use Rattle.map_rows.specs.Rows.{node_at}
 use Rattle.map_rows.proofs.Rows.{nodes_table, node-row_of}
 use Rattle.reason_curves.proofs.node_inside.Invariants.{inner}
 use Rattle.reason_curves.proofs.node_inside.Goals as goal
@@ -30,7 +28,7 @@ loop-i-init c = (
   omega arith,
   rw sub-zero
       (ap (any_of (λ (d : Node). inner (curve_of c.args.c.now) d.at))
-      (sym (nodes_table c.args.nodes.now c.args.n))),
+      (sym (nodes_table c.args.nodes.rows.now c.args.nodes.count))),
 )
 
 pub returns-then-not-is_end : goal.returns-then-not-is_end
@@ -38,13 +36,13 @@ returns-then-not-is_end c =
     let a = c.args in
     let e = told (curve_of a.c.now) c.node_point-p.ensures.0 c.on_curve.ensures c.is_end.ensures
     (rw (c.if-on_curve.true) c.if-not-is_end.true-raw) in
-    sym (any_hit (node_at a.nodes.now) _ _ (λ (d : Node). inner (curve_of a.c.now) d.at)
+    sym (any_hit (node_at a.nodes.rows.now) _ _ (λ (d : Node). inner (curve_of a.c.now) d.at)
     c.loop-i-test.true e) ∙ c.loop-i.invariant.1
 
 pub loop-i-preserved : goal.loop-i-preserved
 loop-i-preserved c =
     let a = c.args in
-    let e : inner (curve_of a.c.now) (node_at a.nodes.now c.loop-i.i).at ≡ false =
+    let e : inner (curve_of a.c.now) (node_at a.nodes.rows.now c.loop-i.i).at ≡ false =
     elim c.else-on_curve.branch [
       | else-on_curve-via-then-on_curve+else-not-is_end w ↦
           told (curve_of a.c.now) c.node_point-p.ensures.0 c.on_curve.ensures w.is_end.ensures
@@ -53,7 +51,7 @@ loop-i-preserved c =
           rw (← c.node_point-p.ensures.0, ← c.on_curve.ensures, w.if-on_curve.false)
     ] in (
       omega arith,
-      sym (any_miss (node_at a.nodes.now) _ _ (λ (d : Node). inner (curve_of a.c.now) d.at)
+      sym (any_miss (node_at a.nodes.rows.now) _ _ (λ (d : Node). inner (curve_of a.c.now) d.at)
           c.loop-i-test.true e)
           ∙ c.loop-i.invariant.1,
     )
@@ -61,14 +59,8 @@ loop-i-preserved c =
 pub returns : goal.returns
 returns c =
     let a = c.args in
-    sym (any_end (node_at a.nodes.now) _ _ (λ (d : Node). inner (curve_of a.c.now) d.at) c.loop-i-test.false)
+    sym (any_end (node_at a.nodes.rows.now) _ _ (λ (d : Node). inner (curve_of a.c.now) d.at) c.loop-i-test.false)
     ∙ c.loop-i.invariant.1
 
 pub node_point-p-requires : goal.node_point-p-requires
-node_point-p-requires c = node-row_of c.requires.0 _ c.loop-i-test.true
-
-pub on_curve-requires : goal.on_curve-requires
-on_curve-requires c = (c.requires.1, c.node_point-p.ensures.1)
-
-pub is_end-requires : goal.is_end-requires
-is_end-requires c = (c.requires.1, c.node_point-p.ensures.1)
+node_point-p-requires c = node-row_of c.args.nodes.ranged _ c.loop-i-test.true

@@ -1,6 +1,5 @@
 -- `reason_curves::on_curve` meets its contract: a point lies on a curve exactly where it has a place there. Assumes
 -- nothing.
-use borrow.Author.Rules.{rules}
 use Rattle.std.specs.Prelude.{is_some}
 use mathlib.Core.Path.{sym, ap, ◌∙◌}
 use Rattle.curves.specs.Curves.{curve_of}

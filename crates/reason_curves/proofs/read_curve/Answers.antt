@@ -1,6 +1,4 @@
 -- `reason_curves::read_curve` meets its contract: each test answers its reason, in order. Assumes nothing.
-use borrow.Author.Rules.{rules}
-use borrow.Author.Tests.{not-false}
 use mathlib.Core.Path.{sym, ◌∙◌}
 use Rattle.map.specs.Reasons.{first_reason}
 use Rattle.curves.proofs.Runs.{run_wider}

@@ -19,12 +19,12 @@ After-way_taken = lts.After-way_taken tie.the-claims reads.Pre reads.Post
 -- the first test
 start : (c : After-way_taken)
     → let a = c.args in
-    c.way_taken.result ≡ way_taken_at a.edges.now a.count a.own a.u (start_way (curve_of a.c.now))
+    c.way_taken.result ≡ way_taken_at a.edges.rows.now a.edges.count a.own a.u (start_way (curve_of a.c.now))
 start c =
     let s = c in
     let a = s.args in
     c.way_taken.ensures
-    ∙ ap₂ (λ (z : ℤ) (w : Way). way_taken_at a.edges.now a.count a.own z w) (to_z-of_z {w = w64} s.ranges.u)
+    ∙ ap₂ (λ (z : ℤ) (w : Way). way_taken_at a.edges.rows.now a.edges.count a.own z w) (to_z-of_z {w = w64} s.ranges.u)
     c.first_step.ensures.way
 
 pub returns-then-way_taken : goal.returns-then-way_taken
@@ -36,5 +36,5 @@ returns-else-way_taken c =
     let a = s.args in
     rw (sym (start c.before.before.before), c.if-way_taken.false)
     (c.way_taken-else-way_taken.ensures
-    ∙ ap₂ (λ (z : ℤ) (w : Way). way_taken_at a.edges.now a.count a.own z w) (to_z-of_z {w = w64} s.ranges.v)
-    (c.first_step-else-way_taken.ensures.way ∙ end_way_lem s.requires.1))
+    ∙ ap₂ (λ (z : ℤ) (w : Way). way_taken_at a.edges.rows.now a.edges.count a.own z w) (to_z-of_z {w = w64} s.ranges.v)
+    (c.first_step-else-way_taken.ensures.way ∙ end_way_lem s.requires))

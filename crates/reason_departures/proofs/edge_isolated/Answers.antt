@@ -18,14 +18,17 @@ use Rattle.reason_departures.proofs.edge_isolated.Goals as goal
 use Rattle.reason_departures.proofs.edge_isolated.Goals.{Joined-u-v, then-u-v, else-u-v}
 
 module _ (c : Joined-u-v) where
+  abbrev ends : ℤ → ℕ
+  ends z = count_of (leaves_node c.args.edges.rows.now z) (positions c.args.edges.count)
+
   abbrev u : ℤ
-  u = get_or c.args.edges.now (c.args.i * 32 + 1) (pos 0)
+  u = get_or c.args.edges.rows.now (c.args.i * 32 + 1) (pos 0)
 
   abbrev v : ℤ
-  v = get_or c.args.edges.now (c.args.i * 32 + 2) (pos 0)
+  v = get_or c.args.edges.rows.now (c.args.i * 32 + 2) (pos 0)
 
   -- the first two tests
-  pair : c.if-u-v.value ≡ not (same_z u v) && same (count_of (leaves_node c.args.edges.now u) (positions c.args.count)) 1
+  pair : c.if-u-v.value ≡ not (same_z u v) && same (ends u) 1
   unfolding same
   pair =
       let fu = sfits_of c.u-1.given in
@@ -33,29 +36,26 @@ module _ (c : Joined-u-v) where
       elim c.if-u-v.branch [
         | then-u-v w ↦ w.value-is
             ∙ ap (λ (k : ℕ). same k 1) (w.edge_ends.ensures.0
-            ∙ ap (λ (z : ℤ). count_of (leaves_node c.args.edges.now z) (positions c.args.count)) (to_z-of_z {w = w64} fu))
-            ∙ ap (λ (b : Bool). not b && same (count_of (leaves_node c.args.edges.now u) (positions c.args.count)) 1)
+            ∙ ap ends (to_z-of_z {w = w64} fu))
+            ∙ ap (λ (b : Bool). not b && same (ends u) 1)
             (sym (not_same u v (λ q. w.if-u-v.true (ap (of_z w64) q))))
         | else-u-v w ↦ w.value-is ∙ ap not (word_test fu fv ∙ is_same u v (word_is fu fv w.if-u-v.false))
-            ∙ ap (λ (b : Bool). not b && same (count_of (leaves_node c.args.edges.now u) (positions c.args.count)) 1)
+            ∙ ap (λ (b : Bool). not b && same (ends u) 1)
             (sym (is_same u v (word_is fu fv w.if-u-v.false)))
       ]
 
 pub returns-then-edge_ends-eq1 : goal.returns-then-edge_ends-eq1
 unfolding same
 returns-then-edge_ends-eq1 c =
-    let p = c.requires in
-    ap (λ (b : Bool). b && same c.edge_ends-then-edge_ends-eq1.result 1) (sym c.if-edge_ends-eq1.true ∙ pair c.before.before)
-    ∙ isolated_is p.0 c.args.i p.1 _ _ _ _ refl refl refl
+    ap (λ (b : Bool). b && same c.edge_ends-then-edge_ends-eq1.result 1)
+    (sym c.if-edge_ends-eq1.true ∙ pair c.before.before)
+    ∙ isolated_is c.args.edges.ranged c.args.i c.requires _ _ _ _ refl refl refl
     (c.edge_ends-then-edge_ends-eq1.ensures.0
-    ∙ ap (λ (z : ℤ). count_of (leaves_node c.args.edges.now z) (positions c.args.count))
-    (to_z-of_z {w = w64} (sfits_of c.v-1.given)))
+    ∙ ap (ends c.before.before) (to_z-of_z {w = w64} (sfits_of c.v-1.given)))
 
 pub returns-else-edge_ends-eq1 : goal.returns-else-edge_ends-eq1
 unfolding same
 returns-else-edge_ends-eq1 c =
-    let p = c.requires in
     c.if-edge_ends-eq1.false
-    ∙ ap (λ (b : Bool). b && same (count_of (leaves_node c.args.edges.now (v c.before)) (positions c.args.count)) 1)
-    (sym c.if-edge_ends-eq1.false ∙ pair c.before)
-    ∙ isolated_is p.0 c.args.i p.1 _ _ _ _ refl refl refl refl
+    ∙ ap (λ (b : Bool). b && same (ends c.before (v c.before)) 1) (sym c.if-edge_ends-eq1.false ∙ pair c.before)
+    ∙ isolated_is c.args.edges.ranged c.args.i c.requires _ _ _ _ refl refl refl refl

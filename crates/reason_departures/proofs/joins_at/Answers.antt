@@ -18,13 +18,13 @@ pub returns-else-ends_at : goal.returns-else-ends_at
 returns-else-ends_at c =
     let s = c in
     let a = s.args in
-    let l = a.edges.now in
+    let l = a.edges.rows.now in
     let k = nat_abs a.node in
-    let z : to_z w64 (of_z w64 a.node) ≡ pos k = to_z-of_z {w = w64} s.ranges.node ∙ pos_abs a.node s.requires.2 in
-    let n = count_of (leaves_node l (pos k)) (positions a.count) in
+    let z : to_z w64 (of_z w64 a.node) ≡ pos k = to_z-of_z {w = w64} s.ranges.node ∙ pos_abs a.node s.requires.1 in
+    let n = count_of (leaves_node l (pos k)) (positions a.edges.count) in
     let f = sym (ap (ends_at l a.j) z) ∙ sym c.ends_at.ensures
     ∙ c.if-ends_at.false in
-    c.if-ends_at.false ∙ sym (ap (λ (b : Bool). b && same n 2) f) ∙ joins_is s.requires.0 a.j s.requires.1 k n refl
+    c.if-ends_at.false ∙ sym (ap (λ (b : Bool). b && same n 2) f) ∙ joins_is a.edges.ranged a.j s.requires.0 k n refl
 
 pub returns-then-ends_at : goal.returns-then-ends_at
 unfolding same
@@ -32,11 +32,11 @@ returns-then-ends_at c =
     let d = c in
     let s = d in
     let a = s.args in
-    let l = a.edges.now in
+    let l = a.edges.rows.now in
     let k = nat_abs a.node in
-    let z : to_z w64 (of_z w64 a.node) ≡ pos k = to_z-of_z {w = w64} s.ranges.node ∙ pos_abs a.node s.requires.2 in
+    let z : to_z w64 (of_z w64 a.node) ≡ pos k = to_z-of_z {w = w64} s.ranges.node ∙ pos_abs a.node s.requires.1 in
     let f = sym (ap (ends_at l a.j) z) ∙ sym d.ends_at.ensures
     ∙ c.if-ends_at.true in
     sym (ap (λ (b : Bool). b && same c.edge_ends.result 2) f)
-    ∙ joins_is s.requires.0 a.j s.requires.1 k c.edge_ends.result
-    (c.edge_ends.ensures.0 ∙ ap (λ (z : ℤ). count_of (leaves_node l z) (positions a.count)) z)
+    ∙ joins_is a.edges.ranged a.j s.requires.0 k c.edge_ends.result
+    (c.edge_ends.ensures.0 ∙ ap (λ (z : ℤ). count_of (leaves_node l z) (positions a.edges.count)) z)

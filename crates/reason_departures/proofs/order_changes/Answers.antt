@@ -31,37 +31,37 @@ atNode l n own c node = any_of (λ p. leaves_node l node p && not (same (turns_a
 
 start : (c : After-turn_changes)
     → (let a = c.args in c.turn_changes.result
-    ≡ atNode a.edges.now a.count a.own a.c.now
-    (pos (edge (edge_map a.edges.now a.count) (edge_at a.edges.now a.own).number).start))
+    ≡ atNode a.edges.rows.now a.edges.count a.own a.c.now
+    (pos (edge (edge_map a.edges.rows.now a.edges.count) (edge_at a.edges.rows.now a.own).number).start))
 unfolding atNode
 start c =
     let s = c in
     let a = s.args in
     c.turn_changes.ensures
-    ∙ ap (atNode a.edges.now a.count a.own a.c.now)
-    (to_z-of_z {w = w64} (sfits_of c.u-1.given) ∙ start_cell s.requires.0 a.own s.requires.2)
+    ∙ ap (atNode a.edges.rows.now a.edges.count a.own a.c.now)
+    (to_z-of_z {w = w64} (sfits_of c.u-1.given) ∙ start_cell a.edges.ranged a.own s.requires.1)
 
 pub returns-then-turn_changes : goal.returns-then-turn_changes
 unfolding atNode
 returns-then-turn_changes c =
     let s = c in
     let a = s.args in
-    let l = a.edges.now in
-    let y = atNode l a.count a.own a.c.now
-    (pos (edge (edge_map l a.count) (edge_at l a.own).number).end) in
+    let l = a.edges.rows.now in
+    let y = atNode l a.edges.count a.own a.c.now
+    (pos (edge (edge_map l a.edges.count) (edge_at l a.own).number).end) in
     c.if-turn_changes.true ∙ ap (λ (b : Bool). b || y) (sym c.if-turn_changes.true)
-    ∙ order_is s.requires.0 a.own s.requires.2 a.c.now c.turn_changes.result y (start c.before) refl
+    ∙ order_is a.edges.ranged a.own s.requires.1 a.c.now c.turn_changes.result y (start c.before) refl
 
 pub returns-else-turn_changes : goal.returns-else-turn_changes
 unfolding atNode
 returns-else-turn_changes c =
     let s = c in
     let a = s.args in
-    let l = a.edges.now in
+    let l = a.edges.rows.now in
     let y = c.turn_changes-else-turn_changes.result in
     let end = c.turn_changes-else-turn_changes.ensures
-    ∙ ap (atNode l a.count a.own a.c.now)
-    (to_z-of_z {w = w64} (sfits_of c.v-1.given) ∙ end-cell s.requires.0 a.own s.requires.2) in
+    ∙ ap (atNode l a.edges.count a.own a.c.now)
+    (to_z-of_z {w = w64} (sfits_of c.v-1.given) ∙ end-cell a.edges.ranged a.own s.requires.1) in
     ap (λ (b : Bool). b || y) (sym c.if-turn_changes.false)
-    ∙ order_is s.requires.0 a.own s.requires.2 a.c.now c.turn_changes.result y
+    ∙ order_is a.edges.ranged a.own s.requires.1 a.c.now c.turn_changes.result y
     (start c.before.before) end

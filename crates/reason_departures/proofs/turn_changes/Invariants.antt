@@ -17,4 +17,5 @@ changes l n own c p = not (same (turns_at l n n c p) (turns_at l n own c p))
 
 abbrev pub invariant-loop-p : goal.invariant-loop-p
 invariant-loop-p l =
-    any_of (changes l.edges l.count l.own l.c) (drop l.p-index l.listed) ≡ any_of (changes l.edges l.count l.own l.c) l.listed
+    let f = changes l.edges.rows.now l.edges.count l.own l.c in
+    any_of f (drop l.p-index l.listed) ≡ any_of f l.listed

@@ -1,9 +1,8 @@
 -- `reason_edges::check_face` meets its contract. Assumes nothing.
-use borrow.Author.Rules.{rules}
 use mathlib.Core.Path.{◌≡◌, sym, ap, ◌∙◌}
 use Prim.Native.Nat.{ℕ}
 use Rattle.lists.specs.Tests.{bit}
-use Rattle.lists.proofs.Counts.{byte_most, byte_bit}
+use Rattle.lists.proofs.Counts.{byte_bit}
 use Rattle.map.specs.Rows.{counts}
 use Rattle.map.proofs.Reasons.{first_hit, first_miss, first_none}
 use Rattle.head.specs.Heads.{spent_at}
@@ -26,6 +25,3 @@ returns-then-is_spent c = sym (first_hit 21 _ _ (sym (told c.before) ∙ c.if-is
 
 pub returns : goal.returns
 returns c = sym (first_miss 21 _ _ (sym (told c.before) ∙ c.if-is_spent.false) ∙ first_none)
-
-pub is_spent-requires : goal.is_spent-requires
-is_spent-requires c = let k = byte_most c.args.makes in search rules

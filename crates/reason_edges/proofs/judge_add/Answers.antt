@@ -21,7 +21,7 @@ pub returns-in_err-check_room-clause-refused : goal.returns-in_err-check_room-cl
 returns-in_err-check_room-clause-refused c =
     let a = c.args in
     let f = c.requires.0 in
-    let e = edges_read (counted f) c.to_usize-e.ensures in
+    let e = edges_read (counted f) c.to_usize.ensures in
     handed_number _ _ c.from_residual-in_err-check_room.ensures.1
     ∙ rows_late f a.how a.u a.v a.c.now (sym c.in_ok-check_drawing.ensures)
     (corner_told f a.how a.u a.v a.c.now c.requires.1 e c.first_step.ensures.way (sent c.corner_face-face.type_inv)
@@ -32,7 +32,7 @@ pub returns-clause-refused : goal.returns-clause-refused
 returns-clause-refused c =
     let a = c.args in
     let f = c.requires.0 in
-    let e = edges_read (counted f) c.to_usize-e.ensures in
+    let e = edges_read (counted f) c.to_usize.ensures in
     rows_late f a.how a.u a.v a.c.now (sym c.in_ok-check_drawing.ensures)
     (corner_told f a.how a.u a.v a.c.now c.requires.1 e c.first_step.ensures.way (sent c.corner_face-face.type_inv)
     c.corner_face-face.ensures) (splits_told f a.how a.u a.v a.c.now e c.splits_face-splits.ensures)
@@ -42,24 +42,21 @@ pub returns-clause-judged : goal.returns-clause-judged
 returns-clause-judged c =
     let a = c.args in
     let f = c.requires.0 in
-    let e = edges_read (counted f) c.to_usize-e.ensures in
+    let e = edges_read (counted f) c.to_usize.ensures in
     rows_known f a.how a.u a.v a.c.now
     (corner_told f a.how a.u a.v a.c.now c.requires.1 e c.first_step.ensures.way (sent c.corner_face-face.type_inv)
     c.corner_face-face.ensures) (splits_told f a.how a.u a.v a.c.now e c.splits_face-splits.ensures)
 
-pub check_drawing-requires : goal.check_drawing-requires
-check_drawing-requires c = c.requires
+pub to_usize-requires : goal.to_usize-requires
+to_usize-requires c = edges_natural (counted c.requires.0)
 
-pub to_usize-e-requires : goal.to_usize-e-requires
-to_usize-e-requires c = edges_natural (counted c.requires.0)
-
-pub first_step-requires : goal.first_step-requires
-first_step-requires c = c.requires.3
+pub invariant_of-drawn : goal.invariant_of-drawn
+invariant_of-drawn c =
+    record { ranged = rows-read c.requires.0 (edges_read (counted c.requires.0) c.to_usize.ensures) }
 
 pub corner_face-face-requires : goal.corner_face-face-requires
 corner_face-face-requires c = (
   node-row_of (node_rows_lem c.requires.0) c.args.u c.requires.1,
-  rows-read c.requires.0 (edges_read (counted c.requires.0) c.to_usize-e.ensures),
   c.first_step.ensures.from,
   c.first_step.ensures.to,
 )
@@ -67,10 +64,9 @@ corner_face-face-requires c = (
 pub splits_face-splits-requires : goal.splits_face-splits-requires
 splits_face-splits-requires c =
     let f = c.requires.0 in
-    let e = edges_read (counted f) c.to_usize-e.ensures in (
+    let e = edges_read (counted f) c.to_usize.ensures in (
       node-row_of (node_rows_lem f) c.args.u c.requires.1,
       node-row_of (node_rows_lem f) c.args.v c.requires.2,
-      rows-read f e,
       omega (arith, e, (counted f).edges.most),
       c.requires.3,
     )
@@ -78,7 +74,7 @@ splits_face-splits-requires c =
 pub makes_second-second-requires : goal.makes_second-second-requires
 makes_second-second-requires c = let a = c.args in
     let f = c.requires.0 in
-    ap non_neg (corner_told f a.how a.u a.v a.c.now c.requires.1 (edges_read (counted f) c.to_usize-e.ensures)
+    ap non_neg (corner_told f a.how a.u a.v a.c.now c.requires.1 (edges_read (counted f) c.to_usize.ensures)
     c.first_step.ensures.way (sent c.corner_face-face.type_inv) c.corner_face-face.ensures)
 
 pub check_room-requires : goal.check_room-requires

@@ -1,5 +1,5 @@
 -- `reason_edges::makes_face` meets its contract: the lower face is 0 where one is. Assumes nothing.
-use borrow.Author.Rules.{rules, sfits_of}
+use borrow.Author.Rules.{sfits_of}
 use mathlib.Core.Path.{refl, ap, ◌∙◌}
 use mathlib.Core.Bool.{Bool, not, ◌&&◌}
 use Prim.Native.Nat.{◌+◌, ◌*◌}

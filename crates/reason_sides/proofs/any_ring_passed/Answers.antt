@@ -14,36 +14,36 @@ use Rattle.reason_sides.proofs.any_ring_passed.Goals as goal
 pub loop-j-init : goal.loop-j-init
 loop-j-init c =
     let a = c.args in
-    let l = a.edges.now in (
+    let l = a.edges.rows.now in (
       omega arith,
-      rw sub-zero (ap (any_of (ring_passed (edge_map l a.count) (edge_at l a.i) (curve_of a.c.now)))
-          (sym (edges_table l a.count))),
+      rw sub-zero (ap (any_of (ring_passed (edge_map l a.edges.count) (edge_at l a.i) (curve_of a.c.now)))
+          (sym (edges_table l a.edges.count))),
     )
 
 pub returns-then-ring_passed : goal.returns-then-ring_passed
 returns-then-ring_passed c =
     let b = c in
     let a = b.args in
-    let l = a.edges.now in
-    sym (any_hit (edge_at l) _ _ (ring_passed (edge_map l a.count) (edge_at l a.i) (curve_of a.c.now))
+    let l = a.edges.rows.now in
+    sym (any_hit (edge_at l) _ _ (ring_passed (edge_map l a.edges.count) (edge_at l a.i) (curve_of a.c.now))
     b.loop-j-test.true (sym c.ring_passed.ensures ∙ c.if-ring_passed.true)) ∙ b.loop-j.invariant.1
 
 pub loop-j-preserved : goal.loop-j-preserved
 loop-j-preserved c =
     let b = c in
     let a = b.args in
-    let l = a.edges.now in (
+    let l = a.edges.rows.now in (
       omega arith,
       sym (any_miss (edge_at l) _ _
-          (ring_passed (edge_map l a.count) (edge_at l a.i) (curve_of a.c.now)) b.loop-j-test.true
+          (ring_passed (edge_map l a.edges.count) (edge_at l a.i) (curve_of a.c.now)) b.loop-j-test.true
           (sym c.ring_passed.ensures ∙ c.if-ring_passed.false)) ∙ b.loop-j.invariant.1,
     )
 
 pub returns : goal.returns
 returns c =
     let a = c.args in
-    let l = a.edges.now in
-    sym (any_end (edge_at l) _ _ (ring_passed (edge_map l a.count) (edge_at l a.i) (curve_of a.c.now))
+    let l = a.edges.rows.now in
+    sym (any_end (edge_at l) _ _ (ring_passed (edge_map l a.edges.count) (edge_at l a.i) (curve_of a.c.now))
     c.loop-j-test.false) ∙ c.loop-j.invariant.1
 
 pub ring_passed-requires : goal.ring_passed-requires

@@ -5,14 +5,16 @@ use Prim.Native.Nat.{◌-◌, ◌≤◌}
 use Rattle.lists.specs.Scans.{any_of}
 use Rattle.lists.specs.Tables.{table}
 use Rattle.curves.specs.Curves.{curve_of}
-use Rattle.map_rows.specs.Rows.{edge_at, edges_of, edge_map}
+use Rattle.map_rows.specs.Rows.{edge_at, edges_of}
+use Rattle.lent_rows.specs.Lent.{drawn}
 use Rattle.reason_sides.specs.Passing.{ring_passed}
 use Rattle.reason_sides.proofs.any_ring_passed.Given as goal
 
 abbrev pub invariant-loop-j : goal.invariant-loop-j
-invariant-loop-j l = (l.j ≤ l.count)
-    × (any_of (ring_passed (edge_map l.edges l.count) (edge_at l.edges l.i) (curve_of l.c)) (table (edge_at l.edges) l.j (l.count - l.j))
-    ≡ any_of (ring_passed (edge_map l.edges l.count) (edge_at l.edges l.i) (curve_of l.c)) (edges_of l.edges l.count))
+invariant-loop-j l =
+    let rows = l.edges.rows.now in
+    let passed = ring_passed (drawn l.edges) (edge_at rows l.i) (curve_of l.c) in (l.j ≤ l.edges.count)
+    × (any_of passed (table (edge_at rows) l.j (l.edges.count - l.j)) ≡ any_of passed (edges_of rows l.edges.count))
 
 abbrev pub decreases-loop-j : goal.decreases-loop-j
-decreases-loop-j l = l.count - l.j
+decreases-loop-j l = l.edges.count - l.j

@@ -10,9 +10,10 @@ use Rattle.reason_sides.specs.Passing.{start_passed}
 use Rattle.reason_sides.proofs.any_start_passed.Given as goal
 
 abbrev pub invariant-loop-j : goal.invariant-loop-j
-invariant-loop-j l = (l.j ≤ l.count)
-    × (any_of (start_passed (edge_at l.edges l.i) (curve_of l.c)) (table (edge_at l.edges) l.j (l.count - l.j))
-    ≡ any_of (start_passed (edge_at l.edges l.i) (curve_of l.c)) (edges_of l.edges l.count))
+invariant-loop-j l =
+    let rows = l.edges.rows.now in
+    let passed = start_passed (edge_at rows l.i) (curve_of l.c) in (l.j ≤ l.edges.count)
+    × (any_of passed (table (edge_at rows) l.j (l.edges.count - l.j)) ≡ any_of passed (edges_of rows l.edges.count))
 
 abbrev pub decreases-loop-j : goal.decreases-loop-j
-decreases-loop-j l = l.count - l.j
+decreases-loop-j l = l.edges.count - l.j

@@ -22,8 +22,8 @@ use Rattle.reason_sides.proofs.area_changes.Goals as goal
 pub returns : goal.returns
 returns c =
     let a = c.args in
-    let m = edge_map a.edges.now a.count in
-    let whole = ring_area m (ring m (dart_at a.edges.now a.p)) in
+    let m = edge_map a.edges.rows.now a.edges.count in
+    let whole = ring_area m (ring m (dart_at a.edges.rows.now a.p)) in
     let area = sent {z = c.ring_area-area.result} c.ring_area-area.type_inv ∙ c.ring_area-area.ensures in
     let lost = to_z-of_z {w = w64} {z = a.lost} c.ranges.lost in
     ap₂ (λ (x y : Bool). not (beq x y)) (ap (lt_z (pos 0)) area ∙ positive_is whole)

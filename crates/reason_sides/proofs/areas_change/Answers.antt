@@ -30,7 +30,7 @@ After-area_lost-lost = lts.After-area_lost tie.the-claims reads.Pre reads.Post
 
 module _ (c : After-area_lost-lost) where
   abbrev row : ℤ
-  row = curve_area (edge_at c.args.edges.now c.args.i).curve
+  row = curve_area (edge_at c.args.edges.rows.now c.args.i).curve
 
   abbrev new : ℤ
   new = curve_area (curve_of c.args.c.now)
@@ -42,22 +42,22 @@ module _ (c : After-area_lost-lost) where
   gain-is = ap (λ (z : ℤ). pos 0 -ℤ z) lost-is ∙ solve 2 (λ x y. con (pos 0) ⊖ (x ⊖ y) ≐ y ⊖ x) tt row new
 
   gain-fits : SFits w64 (pos 0 -ℤ to_z w64 (of_z w64 c.area_lost-lost.result))
-  gain-fits = let r = edge-row_of c.requires.0 c.args.i c.requires.2 in
-      subst (SFits w64) (sym gain-is) (lost_fits (run-within c.requires.3)
+  gain-fits = let r = edge-row_of c.args.edges.ranged c.args.i c.requires.1 in
+      subst (SFits w64) (sym gain-is) (lost_fits (run-within c.requires.2)
       (rw (curve_at r) at (run-within (run_at_lem r))))
 
 pub returns : goal.returns
 returns c =
     let a = c.args in
-    let m = edge_map a.edges.now a.count in
+    let m = edge_map a.edges.rows.now a.edges.count in
     ap₂ ◌||◌
-    (c.area_changes.ensures ∙ ap (sign_changes (ring_area m (ring m (dart_at a.edges.now (a.i * 2)))))
+    (c.area_changes.ensures ∙ ap (sign_changes (ring_area m (ring m (dart_at a.edges.rows.now (a.i * 2)))))
     (lost-is c.before.before))
-    (c.area_changes-2.ensures ∙ ap (sign_changes (ring_area m (ring m (dart_at a.edges.now (a.i * 2 + 1)))))
+    (c.area_changes-2.ensures ∙ ap (sign_changes (ring_area m (ring m (dart_at a.edges.rows.now (a.i * 2 + 1)))))
     (to_z-of_z (gain-fits c.before.before) ∙ gain-is c.before.before))
 
 pub area_lost-lost-requires : goal.area_lost-lost-requires
-area_lost-lost-requires c = (edge-row_of c.requires.0 c.args.i c.requires.2, c.requires.3)
+area_lost-lost-requires c = (edge-row_of c.args.edges.ranged c.args.i c.requires.1, c.requires.2)
 
 pub overflow_sub-lost : goal.overflow_sub-lost
 overflow_sub-lost c = gain-fits c.before

@@ -30,9 +30,9 @@ loop-k-init c =
     let a = c.args in (
       omega arith,
       rw sub-zero
-          (ap (any_of (passed (curve_of a.a.now) (curve_of a.b.now))) (sym (nodes_table a.nodes.now a.n))
+          (ap (any_of (passed (curve_of a.a.now) (curve_of a.b.now))) (sym (nodes_table a.nodes.rows.now a.nodes.count))
           ∙ sym (any_kept (passes_over (curve_of a.a.now) (curve_of a.b.now)) (λ (d : Node). d.at)
-          (λ (d : Node). is_some d.face) (nodes_of a.nodes.now a.n))),
+          (λ (d : Node). is_some d.face) (nodes_of a.nodes.rows.now a.nodes.count))),
     )
 
 pub returns-then-passes_over : goal.returns-then-passes_over
@@ -42,15 +42,15 @@ returns-then-passes_over c =
     let a = b.args in
     let old = curve_of a.a.now in
     let new = curve_of a.b.now in
-    sym (any_hit (node_at a.nodes.now) _ _ (passed old new) b.loop-k-test.true
-    (told old new (node_at a.nodes.now b.loop-k.k) k.is_isolated.ensures
+    sym (any_hit (node_at a.nodes.rows.now) _ _ (passed old new) b.loop-k-test.true
+    (told old new (node_at a.nodes.rows.now b.loop-k.k) k.is_isolated.ensures
     c.if-is_isolated.true c.node_point.ensures.0
     c.passes_over.ensures c.if-passes_over.true)) ∙ b.loop-k.invariant.1
 
 pub loop-k-preserved : goal.loop-k-preserved
 loop-k-preserved c =
     let a = c.args in
-    let d = node_at a.nodes.now c.loop-k.k in
+    let d = node_at a.nodes.rows.now c.loop-k.k in
     let old = curve_of a.a.now in
     let new = curve_of a.b.now in
     let e : passed old new d ≡ false =
@@ -61,21 +61,21 @@ loop-k-preserved c =
           (sym c.is_isolated.ensures ∙ w.if-is_isolated.false)
     ] in (
       omega arith,
-      sym (any_miss (node_at a.nodes.now) _ _ (passed old new) c.loop-k-test.true e) ∙ c.loop-k.invariant.1,
+      sym (any_miss (node_at a.nodes.rows.now) _ _ (passed old new) c.loop-k-test.true e) ∙ c.loop-k.invariant.1,
     )
 
 pub returns : goal.returns
 returns c =
     let a = c.args in
-    sym (any_end (node_at a.nodes.now) _ _ (passed (curve_of a.a.now) (curve_of a.b.now))
+    sym (any_end (node_at a.nodes.rows.now) _ _ (passed (curve_of a.a.now) (curve_of a.b.now))
     c.loop-k-test.false) ∙ c.loop-k.invariant.1
 
 pub is_isolated-requires : goal.is_isolated-requires
-is_isolated-requires c = node-row_of c.requires.0 _ c.loop-k-test.true
+is_isolated-requires c = node-row_of c.args.nodes.ranged _ c.loop-k-test.true
 
 pub node_point-requires : goal.node_point-requires
-node_point-requires c = node-row_of c.requires.0 _ c.loop-k-test.true
+node_point-requires c = node-row_of c.args.nodes.ranged _ c.loop-k-test.true
 
 pub passes_over-requires : goal.passes_over-requires
 passes_over-requires c = let s = c in
-    (s.requires.1, s.requires.2, c.node_point.ensures.1)
+    (s.requires.0, s.requires.1, c.node_point.ensures.1)

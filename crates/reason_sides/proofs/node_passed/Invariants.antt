@@ -17,9 +17,9 @@ abbrev pub passed : Curve → Curve → Node → Bool
 passed a b d = is_some d.face && passes_over a b d.at
 
 abbrev pub invariant-loop-k : goal.invariant-loop-k
-invariant-loop-k l = (l.k ≤ l.n)
-    × (any_of (passed (curve_of l.a) (curve_of l.b)) (table (node_at l.nodes) l.k (l.n - l.k))
-    ≡ any_of (passes_over (curve_of l.a) (curve_of l.b)) (isolated_points (node_map l.nodes l.n)))
+invariant-loop-k l = (l.k ≤ l.nodes.count)
+    × (any_of (passed (curve_of l.a) (curve_of l.b)) (table (node_at l.nodes.rows.now) l.k (l.nodes.count - l.k))
+    ≡ any_of (passes_over (curve_of l.a) (curve_of l.b)) (isolated_points (node_map l.nodes.rows.now l.nodes.count)))
 
 abbrev pub decreases-loop-k : goal.decreases-loop-k
-decreases-loop-k l = l.n - l.k
+decreases-loop-k l = l.nodes.count - l.k

@@ -1,27 +1,28 @@
 -- `reason_sides::on_one_ring` meets its contract: where two faces lie beside the edge its sides are two rings. Assumes
 -- nothing.
-use mathlib.Core.Path.{◌≡◌, sym, ◌∙◌}
+use mathlib.Core.Path.{sym, ◌∙◌}
 use Prim.Native.Nat.{◌+◌, ◌*◌, ◌<◌}
 use native.Mathlib.Omega.{arith}
-use lib.IntN.{nat_abs}
 use Rattle.map_rows.proofs.Rows.{edge-row_of}
 use Rattle.head.proofs.Words.{edges_natural, edges_read}
 use Rattle.outcomes.proofs.Formed.{counted}
 use Rattle.reason_sides.proofs.Sides.{ended, two_faces}
 use Rattle.reason_sides.proofs.on_one_ring.Goals as goal
 
-count : (c : goal.After-to_usize) → c.to_usize.result ≡ nat_abs c.args.h.edges
-count c = edges_read (counted c.requires.0) c.to_usize.ensures
-
-few : (c : goal.After-to_usize) → c.args.i * 2 + 1 < 4000
-few c = let s = c in omega (arith, s.requires.1, (ended s.requires.0).few_edges)
+few : (s : goal.Then-one_face) → s.args.i * 2 + 1 < 4000
+few s = omega (arith, s.requires.1, (ended s.requires.0).few_edges)
 
 pub on_ring-requires : goal.on_ring-requires
 on_ring-requires c =
     let s = c in
-    let n = count c in
+    let n = edges_read (counted s.requires.0) c.to_usize.ensures in
     let t = ended s.requires.0 in
-    (rw n t.edges, rw n t.few_edges, rw n (omega (arith, s.requires.1)), rw n (omega (arith, s.requires.1)))
+    (rw n t.few_edges, rw n (omega (arith, s.requires.1)), rw n (omega (arith, s.requires.1)))
+
+pub invariant_of-drawn : goal.invariant_of-drawn
+invariant_of-drawn c = record {
+  ranged = rw (edges_read (counted c.requires.0) c.to_usize.ensures) (ended c.requires.0).edges;
+}
 
 pub one_face-requires : goal.one_face-requires
 one_face-requires c = edge-row_of (ended c.requires.0).edges c.args.i c.requires.1

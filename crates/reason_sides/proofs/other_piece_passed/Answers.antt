@@ -14,9 +14,9 @@ use Rattle.reason_sides.proofs.other_piece_passed.Goals as goal
 pub returns-then-not-any_start_passed : goal.returns-then-not-any_start_passed
 returns-then-not-any_start_passed c =
     let s = c in
-    let l = s.args.edges.now in
-    sym (none_passed (edge_map l s.args.count) (edge_at l s.args.i) (curve_of s.args.c.now)
-    (edge_member l s.args.count s.args.i s.requires.1)
+    let l = s.args.edges.rows.now in
+    sym (none_passed (edge_map l s.args.edges.count) (edge_at l s.args.i) (curve_of s.args.c.now)
+    (edge_member l s.args.edges.count s.args.i s.requires.1)
     (sym c.any_start_passed.ensures ∙ c.if-not-any_start_passed.true))
 
 -- there is a label for each node
@@ -24,8 +24,8 @@ room : (n : ℕ) → n ≤ max_nodes → length {A = ℕ} (take n (replicate max
 room n h = length-take-le n (replicate max_nodes 0) (omega (arith, length-replicate {A = ℕ} max_nodes 0))
 
 pub slice_bounds-any_passed_with-end : goal.slice_bounds-any_passed_with-end
-slice_bounds-any_passed_with-end c = let s = c in sym (room s.args.n s.requires.0.few_nodes)
+slice_bounds-any_passed_with-end c = let s = c in sym (room s.args.nodes.count s.requires.0.few_nodes)
 
 pub any_passed_with-requires : goal.any_passed_with-requires
 any_passed_with-requires c = let s = c in
-    (s.requires.0, s.requires.1, s.requires.2, room s.args.n s.requires.0.few_nodes)
+    (s.requires.0, s.requires.1, s.requires.2, room s.args.nodes.count s.requires.0.few_nodes)

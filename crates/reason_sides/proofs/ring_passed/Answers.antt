@@ -43,30 +43,31 @@ else_told ep f ev b = ev ∙ f ∙ ap (λ (x : Bool). x && b) (sym f ∙ ep)
 pub returns-then-not-same_piece : goal.returns-then-not-same_piece
 returns-then-not-same_piece c =
     let a = c.args in
-    let l = a.edges.now in
+    let l = a.edges.rows.now in
     let d = curve_of a.c.now in
-    let first = c.is_lowest.ensures ∙ ap (is_lowest (m l a.count a.i d a.j)) (dart_even l a.j) in
-    let second = c.is_lowest-then-not-same_piece.ensures ∙ ap (is_lowest (m l a.count a.i d a.j)) (dart_odd l a.j) in
-    let both : c.if-passes_start.value ≡ over l a.count a.i d a.j && not (one l a.count a.i d a.j) =
+    let first = c.is_lowest.ensures ∙ ap (is_lowest (m l a.edges.count a.i d a.j)) (dart_even l a.j) in
+    let second = c.is_lowest-then-not-same_piece.ensures
+    ∙ ap (is_lowest (m l a.edges.count a.i d a.j)) (dart_odd l a.j) in
+    let both : c.if-passes_start.value ≡ over l a.edges.count a.i d a.j && not (one l a.edges.count a.i d a.j) =
     elim c.if-passes_start.branch [
       | then-passes_start w ↦ then_told c.passes_start.ensures w.same_piece.ensures w.if-passes_start.true w.value-is
       | else-passes_start w ↦ else_told c.passes_start.ensures w.if-passes_start.false w.value-is _
     ] in
     ap₂ ◌||◌ first second
-    ∙ ap (λ (x : Bool). x && low l a.count a.i d a.j) (sym c.if-not-same_piece.true ∙ both)
+    ∙ ap (λ (x : Bool). x && low l a.edges.count a.i d a.j) (sym c.if-not-same_piece.true ∙ both)
 
 pub returns-else-not-same_piece : goal.returns-else-not-same_piece
 returns-else-not-same_piece c =
     let a = c.args in
-    let l = a.edges.now in
+    let l = a.edges.rows.now in
     let d = curve_of a.c.now in
-    let both : c.if-passes_start.value ≡ over l a.count a.i d a.j && not (one l a.count a.i d a.j) =
+    let both : c.if-passes_start.value ≡ over l a.edges.count a.i d a.j && not (one l a.edges.count a.i d a.j) =
     elim c.if-passes_start.branch [
       | then-passes_start w ↦ then_told c.passes_start.ensures w.same_piece.ensures w.if-passes_start.true w.value-is
       | else-passes_start w ↦ else_told c.passes_start.ensures w.if-passes_start.false w.value-is _
     ] in
     c.if-not-same_piece.false
-    ∙ ap (λ (x : Bool). x && low l a.count a.i d a.j) (sym c.if-not-same_piece.false ∙ both)
+    ∙ ap (λ (x : Bool). x && low l a.edges.count a.i d a.j) (sym c.if-not-same_piece.false ∙ both)
 
 pub passes_start-requires : goal.passes_start-requires
 passes_start-requires c = let p = c.requires in

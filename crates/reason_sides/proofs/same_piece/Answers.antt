@@ -14,12 +14,11 @@ use Rattle.reason_sides.proofs.same_piece.Goals as goal
 pub returns : goal.returns
 unfolding same
 returns c =
-    let b = c in
-    let s = b in
+    let s = c in
     let a = s.args in
     let p = s.requires in
-    let start : ℕ → ℤ = λ k. get_or a.edges.now (k * edge_width + 1) (pos 0) in
+    let start : ℕ → ℤ = λ k. get_or a.edges.rows.now (k * edge_width + 1) (pos 0) in
     ap₂ same
-    (rw (to_z-of_z {w = w64} {z = start a.j} (sfits_of b.label_of-arg-1.given)) at b.label_of-a.ensures)
-    (rw (to_z-of_z {w = w64} {z = start a.i} (sfits_of c.label_of-arg-2-1.given)) at c.label_of-b.ensures)
+    (rw (to_z-of_z {w = w64} {z = start a.j} (sfits_of s.start-1.given)) at c.label_of.ensures)
+    (rw (to_z-of_z {w = w64} {z = start a.i} (sfits_of s.own-1.given)) at c.label_of-2.ensures)
     ∙ labels_tell p.0 p.3 a.j a.i p.2 p.1

@@ -2,12 +2,7 @@
 -- a node or a ring on another piece that tells. Assumes nothing.
 use mathlib.Core.Path.{◌≡◌, refl, sym, ap, ◌∙◌}
 use mathlib.Core.Bool.{Bool, true, false, not, ◌||◌}
-use Prim.Native.Nat.{◌+◌, ◌*◌}
-use lib.IntN.{nat_abs}
-use Rattle.map.specs.Darts.{ring, among}
-use Rattle.map_rows.specs.Rows.{edge_map}
 use Rattle.map_rows.proofs.Rows.{edge-row_of}
-use Rattle.darts.specs.Positions.{dart_at}
 use Rattle.head.proofs.Words.{nodes_natural, nodes_read, edges_natural, edges_read}
 use Rattle.outcomes.proofs.Formed.{counted}
 use Rattle.reason_sides.proofs.Sides.{ended, one_side, areas_change, node_passed, other_passed, two_sides}
@@ -21,12 +16,10 @@ pub areas_change-requires : goal.areas_change-requires
 areas_change-requires c =
     let n = edges_read (counted c.requires.0) c.to_usize-e.ensures in
     let t = ended c.requires.0 in
-    (rw n t.edges, rw n t.few_edges, rw n c.requires.1, c.requires.2)
+    (rw n t.few_edges, rw n c.requires.1, c.requires.2)
 
 pub node_passed-requires : goal.node_passed-requires
-node_passed-requires c =
-    let n = nodes_read (counted c.requires.0) c.to_usize-n.ensures in
-    (rw n (ended c.requires.0).nodes, c.curve_of.ensures.0, c.requires.2)
+node_passed-requires c = (c.curve_of.ensures.0, c.requires.2)
 
 pub other_piece_passed-requires : goal.other_piece_passed-requires
 other_piece_passed-requires c =
@@ -96,3 +89,13 @@ to_usize-e-requires c = edges_natural (counted c.requires.0)
 pub curve_of-requires : goal.curve_of-requires
 curve_of-requires c = let s = c in
     edge-row_of (ended s.requires.0).edges _ s.requires.1
+
+pub invariant_of-placed : goal.invariant_of-placed
+invariant_of-placed c = record {
+  ranged = rw (nodes_read (counted c.requires.0) c.to_usize-n.ensures) (ended c.requires.0).nodes;
+}
+
+pub invariant_of-drawn : goal.invariant_of-drawn
+invariant_of-drawn c = record {
+  ranged = rw (edges_read (counted c.requires.0) c.to_usize-e.ensures) (ended c.requires.0).edges;
+}

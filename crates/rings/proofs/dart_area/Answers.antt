@@ -1,5 +1,4 @@
 -- `rings::dart_area` meets its contract: the area of the edge, or its opposite. Assumes nothing.
-use borrow.Author.Rules.{rules}
 use mathlib.Core.Path.{◌≡◌, sym, ap, ◌∙◌, subst}
 use Prim.Native.Nat.{◌/◌}
 use native.Mathlib.Omega.{arith}

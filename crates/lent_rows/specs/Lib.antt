@@ -1,0 +1,2 @@
+-- `Lent`: the maps that rows in use stand for.
+pub mod Lent
