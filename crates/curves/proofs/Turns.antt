@@ -1,7 +1,6 @@
 -- The tests of curves over the points of a run that are left from point i on: a turn of the loop is `-hit` or `-miss`,
 -- and the loop's end is `-end`. Assumes nothing.
-use Rattle.std.specs.Prelude.{Option, Some, None}
-use Rattle.std.specs.Bool.{then_some}
+use Rattle.std.specs.Prelude.{Some}
 use mathlib.Core.Path.{◌≡◌, refl, sym, ap, ap₂, ◌∙◌}
 use mathlib.Core.Bool.{Bool, true, false, not, ◌&&◌, ◌||◌, beq}
 use mathlib.Core.List.{List, [], ◌∷◌, map}
@@ -22,7 +21,9 @@ use Rattle.plane.specs.Segments.{on_segment}
 use Rattle.plane.specs.Below.{Segment, passes_below}
 use Rattle.curves.specs.Curves.{Curve, Run, point_at, points_from, segments_of, curve_of, last_point}
 use Rattle.curves.specs.Tests.{differs, shares, seg_wrong, may_share, graver, gravest}
-use Rattle.curves.specs.Shares.{listed, shareable, marked_ends, AnyInRange}
+use Rattle.curves.specs.declared.End.{End}
+use Rattle.curves.specs.declared.End.TheVariants.{Common, Own}
+use Rattle.curves.specs.Shares.{point_of, end_of, listed, shareable, marked_ends}
 use Rattle.curves.specs.Tests.{common_ends, lastly, free, free_after, arc, simple, is_simple}
 use Rattle.curves.proofs.Meetings.{graver_none, graver_assoc}
 use Rattle.curves.proofs.Runs.{two-points, from_step, from_end, curve_is, last_is}
@@ -125,7 +126,7 @@ module _ (l : List ℤ) (i : ℕ) {n : ℕ} (all : n + 1 ≡ length l / 2) (left
   arc-end = rw (from_end l (i + 1) past)
 
 -- the points that two segments may share, as lists
-pub listed_is : (m : Bool) (p : Point) (l : List Point) → listed (then_some m p) l ≡ may_share m p l
+pub listed_is : (m : Bool) (p : Point) (l : List Point) → listed (end_of m p) l ≡ may_share m p l
 listed_is true p l = refl
 listed_is false p l = refl
 
@@ -135,16 +136,16 @@ shareable_ends c d = rw (
   listed_is (same_point (last_point c) d.first || same_point (last_point c) (last_point d)),
 )
 
-pub any_then : {o : Option Point} (m : Bool) (p : Point) → o ≡ then_some m p → InRange p → AnyInRange o
-any_then true p e h = rw e h
-any_then false p e h = rw e tt
+pub end_in_range : {e : End} (m : Bool) (p : Point) → e ≡ end_of m p → InRange p → InRange (point_of e)
+end_in_range true p e h = rw e h
+end_in_range false p e h = rw e h
 
--- the ends of one run that are ends of the other
-pub common_ends_are : {l k : List ℤ} (n m : ℕ) {a z b y : Point} {s t : Bool} {f g : Option Point} → Run l → Run k
+-- the ends of one run, each with whether it is an end of the other
+pub common_ends_are : {l k : List ℤ} (n m : ℕ) {a z b y : Point} {s t : Bool} {f g : End} → Run l → Run k
     → n + 1 ≡ length l / 2 → m + 1 ≡ length k / 2
     → a ≡ point_at l 0 → z ≡ point_at l n → b ≡ point_at k 0 → y ≡ point_at k m
     → s ≡ same_point a b || same_point a y → t ≡ same_point z b || same_point z y
-    → f ≡ then_some s a → g ≡ then_some t z
+    → f ≡ end_of s a → g ≡ end_of t z
     → record { first = f; last = g } ≡ marked_ends (curve_of l) (curve_of k)
 common_ends_are {l} {k} n m run run' en em ea ez eb ey es et ef eg =
     rw (curve_is run, curve_is run', last_is l n en, last_is k m em, ef, eg, es, et, ea, ez, eb, ey)
@@ -159,10 +160,11 @@ simple_is {l} n run e =
     rw (curve_is run, ← last_is l n e, f)
 
 -- a point of either lies on both segments
-pub shares_is : (p q : Option Point) (a b c d : Point)
+pub shares_is : (p q : End) (a b c d : Point)
     → shares (listed p (listed q [])) a b c d ≡ shares (listed p []) a b c d || shares (listed q []) a b c d
-shares_is None q a b c d = refl
-shares_is (Some p) q a b c d = sym (eq2 (λ s t. (s || false) || t) (λ s t. s || t) tt (on_segment p a b && on_segment p c d)
+shares_is (Own p) q a b c d = refl
+shares_is (Common p) q a b c d =
+    sym (eq2 (λ s t. (s || false) || t) (λ s t. s || t) tt (on_segment p a b && on_segment p c d)
     (shares (listed q []) a b c d))
 
 -- the first point may be shared with the last segment alone
@@ -184,10 +186,10 @@ share_last l m p i n e h = go (eqb (i + 1) n) refl
         none true = refl
         none false = refl
 
--- what the test of segment i answered, where o is the point that may be shared
-pub free_told : (l : List ℤ) (i n : ℕ) (m : Bool) (p a b : Point) {q r : Point} {s t v : Bool} {o : Option Point}
+-- what the test of segment i answered, where o is p as an end
+pub free_told : (l : List ℤ) (i n : ℕ) (m : Bool) (p a b : Point) {q r : Point} {s t v : Bool} {o : End}
     → n + 1 ≡ length l / 2 → i < n → q ≡ point_at l i → r ≡ point_at l (i + 1)
-    → s ≡ (m && eqb (i + 1) n) → o ≡ then_some s p → t ≡ seg_wrong (listed o []) a b q r → t ≡ v
+    → s ≡ (m && eqb (i + 1) n) → o ≡ end_of s p → t ≡ seg_wrong (listed o []) a b q r → t ≡ v
     → seg_wrong (lastly (may_share m p []) (points_from l (i + 1 + 1))) a b (point_at l i) (point_at l (i + 1)) ≡ v
 free_told l i n m p a b all taken eq er es eo et ev =
     sym (ap (λ (k : List Point). seg_wrong k a b (point_at l i) (point_at l (i + 1)))

@@ -8,7 +8,7 @@ ghost use Rattle.curves.specs.Curves.{Run, coordinate, is_run_to, point_at, poin
 ghost use Rattle.curves.specs.Tests.{neighbours_differ, first_place, shares, seg_wrong, may_share};
 ghost use Rattle.curves.specs.Tests.{seg_meeting, graver, gravest, meeting, free, free_after, is_simple};
 ghost use Rattle.curves.specs.Measures.{curve_area, odd_below};
-ghost use Rattle.curves.specs.Shares.{Shareable, AnyInRange, listed, shareable, marked_ends};
+ghost use Rattle.curves.specs.Shares.{Shareable, point_of, end_of, listed, shareable, marked_ends};
 
 use plane::{Contact, Point};
 
@@ -17,11 +17,18 @@ pub const POINTS: usize = 12;
 
 pub const CELLS: usize = 2 * POINTS;
 
-// The points that segments may share: at most two.
+// An end of a curve: one that segments may share, or one of its own alone.
+#[derive(Clone, Copy)]
+pub enum End {
+    Common(Point),
+    Own(Point),
+}
+
+// The ends of a curve, each with whether segments may share it.
 #[derive(Clone, Copy)]
 pub struct Shares {
-    pub first: Option<Point>,
-    pub last: Option<Point>,
+    pub first: End,
+    pub last: End,
 }
 
 // ---- points of a run
@@ -103,14 +110,21 @@ pub fn first_place(c: &[i64], p: Point) -> Option<usize>
 
 // ---- points that two segments share
 
-// Whether there is a point to share and it lies on both segments.
-fn shared_at(shared: Option<Point>, a: Point, b: Point, c: Point, d: Point) -> bool
-    requires { (AnyInRange shared) × (InRange a) × (InRange b) × (InRange c) × (InRange d) }
-    ensures { result ≡ shares (listed shared []) a b c d }
+// The point as an end.
+fn end_of(common: bool, p: Point) -> End
+    ensures { result ≡ end_of common p }
 {
-    match shared {
-        Some(p) => plane::on_segment(p, a, b) && plane::on_segment(p, c, d),
-        None => false,
+    if common { End::Common(p) } else { End::Own(p) }
+}
+
+// Whether segments may share the end and it lies on both.
+fn shared_at(end: End, a: Point, b: Point, c: Point, d: Point) -> bool
+    requires { InRange (point_of end) × (InRange a) × (InRange b) × (InRange c) × (InRange d) }
+    ensures { result ≡ shares (listed end []) a b c d }
+{
+    match end {
+        End::Common(p) => plane::on_segment(p, a, b) && plane::on_segment(p, c, d),
+        End::Own(_) => false,
     }
 }
 
@@ -126,7 +140,7 @@ fn segments_wrong(l: Shares, a: Point, b: Point, c: Point, d: Point) -> bool
 
 // ---- two curves
 
-// The ends of c that are ends of d.
+// The ends of c, each with whether it is an end of d.
 pub fn common_ends(c: &[i64], d: &[i64]) -> Shares
     requires { Run c.now × Run d.now }
     ensures { (result ≡ marked_ends (curve_of c.now) (curve_of d.now)) × Shareable result }
@@ -136,8 +150,8 @@ pub fn common_ends(c: &[i64], d: &[i64]) -> Shares
     let b = point_at(d, 0);
     let y = point_at(d, segment_count(d));
     Shares {
-        first: (a == b || a == y).then_some(a),
-        last: (z == b || z == y).then_some(z),
+        first: end_of(a == b || a == y, a),
+        last: end_of(z == b || z == y, z),
     }
 }
 
@@ -197,8 +211,8 @@ fn segment_free(c: &[i64], i: usize, closed: bool) -> bool
     let end = point_at(c, 0);
     for j in i + 2..n {
         let l = Shares {
-            first: (closed && j + 1 == n).then_some(end),
-            last: None,
+            first: end_of(closed && j + 1 == n, end),
+            last: End::Own(end),
         };
         if segments_wrong(l, a, b, point_at(c, j), point_at(c, j + 1)) {
             return false;
@@ -219,8 +233,8 @@ fn segment_clear(c: &[i64], i: usize, closed: bool) -> bool
     }
     let b = point_at(c, i + 1);
     let l = Shares {
-        first: Some(b),
-        last: None,
+        first: End::Common(b),
+        last: End::Own(b),
     };
     if segments_wrong(l, point_at(c, i), b, b, point_at(c, i + 2)) {
         return false;

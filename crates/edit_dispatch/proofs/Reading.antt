@@ -122,10 +122,12 @@ pub rows_none : (nodes edges faces : List ℤ) (h : Head) {o : Option Ticket} {d
 rows_none nodes edges faces h e n = rw (n, e)
 
 -- no number, and a first one
+no_first : (t : List ℤ) → std.None ≡ slice_get t 0 → length t ≡ 0
+no_first [] e = refl
+no_first (z ∷ r) e = cc
+
 pub first_none : (t : List ℤ) → std.None ≡ slice_get t 0 → read t ≡ none
-unfolding read
-first_none [] e = refl
-first_none (z ∷ r) e = cc
+first_none t e = sym (read-kind t) ∙ read-empty t (no_first t e)
 
 pub first_some : (t : List ℤ) {z : ℤ} → Some z ≡ slice_get t 0 → (0 < length t) × (z ≡ get_or t 0 (pos 0))
 first_some [] e = (cc, cc)

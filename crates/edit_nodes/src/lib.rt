@@ -99,7 +99,9 @@ fn check_add(
         return check_point(nodes, edges, faces, h, x, y);
     }
     let n = head::to_usize(h.faces);
-    tables::find_row(faces, map::FACE_WIDTH, n, face).ok_or(Refusal::NoSuchRow)?;
+    let Some(_) = tables::find_row(faces, map::FACE_WIDTH, n, face) else {
+        return Err(Refusal::NoSuchRow);
+    };
     check_point(nodes, edges, faces, h, x, y)
 }
 

@@ -3,9 +3,12 @@ use mathlib.Core.Path.{◌≡◌, sym, ap, ◌∙◌}
 use mathlib.Core.Bool.{true, false, cond, ◌||◌}
 use mathlib.Core.Logic.{inl, inr}
 use mathlib.Core.List.{List}
-use Prim.Native.Nat.{ℕ, ◌<◌}
-use lib.ListN.{length, set, replicate, get_or-replicate}
-use lib.Seq.{get_or-set_same, get_or-set_other}
+use Prim.Native.Nat.{ℕ, ◌+◌, ◌<◌}
+use lib.ListN.{length, set, replicate, drop, get_or-replicate}
+use lib.Seq.{get_or-set_same, get_or-set_other, paste}
+use native.Mathlib.Omega.{arith}
+use Rattle.std.proofs.lemmas.List.{length-replicate, get_or_append_left}
+use Rattle.std.proofs.lemmas.List.Edits.{paste_all}
 use Rattle.lists.specs.Tests.{same}
 use Rattle.lists.proofs.Bools.{which, equal?, same_eq, same_true, same_false}
 use Rattle.bounding_boxes.specs.declared.Extent.{Extent}
@@ -47,5 +50,10 @@ module _ (j a b : ℕ) (x : Extent) {m e f : Extent} (one : m ≡ cond (same j a
 
 -- ---- no box has a point at first
 
-pub none_taken : (n j : ℕ) → j < n → box_in (replicate n no_point) j ≡ no_point
-none_taken n j h = get_or-replicate {A = Extent} n j no_point _ h
+pub none_taken : (before : List Extent) {boxes : List Extent} {n : ℕ} → boxes ≡ paste before 0 (replicate n no_point) n
+    → (j : ℕ) → j < n → box_in boxes j ≡ no_point
+none_taken before {boxes} {n} e j h =
+    let all = length-replicate n no_point in
+    ap (λ (l : List Extent). box_in l j) (e ∙ paste_all before 0 (replicate n no_point) n (sym all))
+    ∙ get_or_append_left (replicate n no_point) (drop (0 + n) before) _ j (omega (arith, all, h))
+    ∙ get_or-replicate {A = Extent} n j no_point _ h

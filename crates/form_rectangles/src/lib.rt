@@ -2,7 +2,8 @@
 // faces on their sides, whose rows are given for each directed edge: `bears`.
 #![tactic(auto)]
 
-ghost use Rattle.std.specs.Prelude.{◌≡◌, cond, ◌||◌, ℕ, ◌+◌, ◌*◌, ◌≤◌, ◌<◌, length, get_or};
+ghost use Rattle.std.specs.Prelude.{◌≡◌, cond, ◌||◌, ℕ, ◌+◌, ◌*◌, ◌≤◌, ◌<◌, length, get_or, replicate};
+ghost use Rattle.std.proofs.Math.Seq.{paste};
 ghost use Rattle.lists.specs.Tests.{same};
 ghost use Rattle.lists.specs.Scans.{all_of};
 ghost use Rattle.lists.specs.Tables.{table};
@@ -19,6 +20,14 @@ ghost use Rattle.form_rectangles.specs.Merged.{box_in, settled_for, row_fits};
 use bounding_boxes::Extent;
 use map::Map;
 use rectangles::{NO_POINT, ZEROS};
+
+// The first n boxes have no point.
+fn empty_boxes(boxes: &mut [Extent; Map::FACES], n: usize)
+    requires { n ≤ max_faces }
+    ensures { boxes.new ≡ paste boxes.old 0 (replicate n no_point) n }
+{
+    boxes[..n].fill(NO_POINT);
+}
 
 // The boxes of rows a and b take in the curve of edge row i.
 fn take_curve(boxes: &mut [Extent; Map::FACES], edges: &[i64], i: usize, a: usize, b: usize)
@@ -38,9 +47,9 @@ fn take_curve(boxes: &mut [Extent; Map::FACES], edges: &[i64], i: usize, a: usiz
 // The boxes of all faces take in the curves of the edges that they border.
 fn take_edges(boxes: &mut [Extent; Map::FACES], edges: &[i64], count: usize, bears: &[u16])
     requires { EdgeRows edges.now count × (count ≤ max_edges) × (count * 2 ≤ length bears.now)
-        × ((p : ℕ) → p < count * 2 → get_or bears.now p 0 < max_faces)
-        × ((j : ℕ) → j < max_faces → box_in boxes.old j ≡ no_point) }
+        × ((p : ℕ) → p < count * 2 → get_or bears.now p 0 < max_faces) }
     ensures { (faces : _) (n : ℕ) → FaceRows faces n → n ≤ max_faces
+        → ((j : ℕ) → j < n → box_in boxes.old j ≡ no_point)
         → RowsNamed face_width faces n edges.now 5 bears.now (count * 2)
         → (k : ℕ) → k < n
         → box_in boxes.new k
@@ -100,7 +109,8 @@ pub fn rectangles_fit(edges: &[i64], count: usize, faces: &[i64], n: usize, bear
     ensures { result ≡ all_of (has_box (rectangle (edges_of edges.now count)))
         (rows face_width n faces.now) }
 {
-    let mut boxes = [NO_POINT; Map::FACES];
+    let mut boxes = [ZEROS; Map::FACES];
+    empty_boxes(&mut boxes, n);
     take_edges(&mut boxes, edges, count, bears);
     rows_fit(&boxes, faces, n)
 }

@@ -1,4 +1,3 @@
--- `Lines`: the numbers of a line of text. `Parsed`: what parsing answers. `Steps`: what the second pass needs and leaves.
+-- `Lines`: the numbers of a line of text. `Parsed`: what parsing answers.
 pub mod Lines
 pub mod Parsed
-pub mod Steps

@@ -1,11 +1,11 @@
 // A ticket as a line of text.
 #![tactic(auto)]
 
-ghost use Rattle.std.specs.Prelude.{◌≡◌, length};
+ghost use Rattle.std.specs.Prelude.{◌≡◌, ◌≤◌, List, Some, length};
 ghost use Rattle.std.specs.Option.{option_map};
-ghost use Rattle.text.specs.Lines.{line_numbers, blank, word_number, words, numbers_of};
+ghost use Rattle.std.proofs.Math.Seq.{sets, paste};
+ghost use Rattle.text.specs.Lines.{max_line, line_numbers, blank, word_number, words, numbers_of};
 ghost use Rattle.text.specs.Parsed.{ParsedAs};
-ghost use Rattle.text.specs.Steps.{NumbersFit, numbers_written};
 
 use std::str;
 
@@ -30,38 +30,39 @@ fn number_of(word: &[u8]) -> Option<i64>
     str::from_utf8(word).ok()?.parse().ok()
 }
 
-// The first pass: how many numbers there are, if each word is one.
-fn count_numbers(line: &[u8]) -> Option<usize>
-    ensures { result ≡ option_map length (numbers_of (words line.now)) }
+// The words of a line as numbers, from the front of the list on, and how many they are, if each is one.
+fn read_numbers(line: &[u8], list: &mut [i64; NUMBERS]) -> Option<usize>
+    requires { length line.now ≤ max_line }
+    ensures count { result ≡ option_map length (numbers_of (words line.now)) }
+    ensures numbers { (zs : List _) → numbers_of (words line.now) ≡ Some zs → list.new ≡ sets list.old 0 zs }
 {
     let mut n = 0;
     for word in line.split(|b| is_blank(*b)).filter(|w| !w.is_empty()) {
-        number_of(word)?;
+        let z = number_of(word)?;
+        list[n] = z;
         n += 1;
     }
     Some(n)
 }
 
-// The second pass, over a line that is right: its numbers are written. The empty piece between two blanks is none.
-fn write_numbers(line: &[u8], list: &mut [i64])
-    requires { NumbersFit (length list.old) (numbers_of (words line.now)) }
-    ensures { list.new ≡ numbers_written list.old (numbers_of (words line.now)) }
+// Writes numbers from the front of the list.
+fn write_numbers(list: &mut [i64], numbers: &[i64])
+    requires { length numbers.now ≤ length list.old }
+    ensures { list.new ≡ paste list.old 0 numbers.now (length numbers.now) }
 {
-    let numbers = line.split(|b| is_blank(*b)).filter_map(number_of);
-    for (n, z) in numbers.enumerate() {
-        list[n] = z;
-    }
+    list[..numbers.len()].copy_from_slice(numbers);
 }
 
-// The numbers of a line, written from the front of the list; the rest of the list is untouched. The list holds what a
-// line can have.
+// The numbers of a line, written from the front of the list; the rest of the list is untouched, and all of it where the
+// line is wrong: the words are read into a list of their own. The list holds what a line can have.
 pub fn parse(line: &[u8], list: &mut [i64; NUMBERS]) -> Option<usize>
     ensures { ParsedAs (line_numbers line.now) list.old result list.new }
 {
     if LINE < line.len() {
         return None;
     }
-    let n = count_numbers(line)?;
-    write_numbers(line, list);
+    let mut numbers = [0i64; NUMBERS];
+    let n = read_numbers(line, &mut numbers)?;
+    write_numbers(list, &numbers[..n]);
     Some(n)
 }

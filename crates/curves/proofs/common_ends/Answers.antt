@@ -5,7 +5,7 @@ use mathlib.Core.Path.{◌≡◌, ◌∙◌}
 use mathlib.Core.Bool.{◌||◌}
 use Rattle.plane.specs.Points.{same_point}
 use Rattle.plane.proofs.Laws.{point_eq}
-use Rattle.curves.proofs.Turns.{common_ends_are, any_then}
+use Rattle.curves.proofs.Turns.{common_ends_are, end_in_range}
 use Rattle.curves.proofs.common_ends.Goals as goal
 use Rattle.curves.proofs.common_ends.Goals.{then-eq, else-eq, then-eq-2, else-eq-2}
 
@@ -25,11 +25,11 @@ returns c =
     let b = c.point_at-b.result in
     let y = c.point_at-y.result in
     let z = c.point_at-z.result in
-    let first : c.if-eq.then_some ≡ same_point a b || same_point a y = elim c.if-eq.branch [
+    let first : c.if-eq.end_of ≡ same_point a b || same_point a y = elim c.if-eq.branch [
       | then-eq w ↦ let e = c.eq.ensures ∙ point_eq a b in cc
       | else-eq w ↦ let e = c.eq.ensures ∙ point_eq a b in let f = w.eq-else-eq.ensures ∙ point_eq a y in cc
     ] in
-    let last : c.if-eq-2.then_some ≡ same_point z b || same_point z y = elim c.if-eq-2.branch [
+    let last : c.if-eq-2.end_of ≡ same_point z b || same_point z y = elim c.if-eq-2.branch [
       | then-eq-2 w ↦ let e = c.eq-2.ensures ∙ point_eq z b in cc
       | else-eq-2 w ↦ let e = c.eq-2.ensures ∙ point_eq z b in let f = w.eq-else-eq-2.ensures ∙ point_eq z y in cc
     ] in (
@@ -40,9 +40,9 @@ returns c =
           c.point_at-z.ensures.0
           c.point_at-b.ensures.0
           c.point_at-y.ensures.0
-          first last c.then_some.ensures c.then_some-2.ensures,
+          first last c.end_of.ensures c.end_of-2.ensures,
       record {
-        first = any_then _ _ c.then_some.ensures c.point_at-a.ensures.1;
-        last = any_then _ _ c.then_some-2.ensures c.point_at-z.ensures.1;
+        first = end_in_range _ _ c.end_of.ensures c.point_at-a.ensures.1;
+        last = end_in_range _ _ c.end_of-2.ensures c.point_at-z.ensures.1;
       },
     )

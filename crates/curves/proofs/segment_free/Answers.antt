@@ -15,14 +15,14 @@ returns-then-segments_wrong c =
     let l = c.args.c.now in
     let all = c.segment_count-n.ensures.0 in
     let taken = c.loop-j-test.true in
-    let m : c.if-closed.then_some ≡ c.args.closed && eqb (c.loop-j.j + 1) c.segment_count-n.result =
+    let m : c.if-closed.end_of ≡ c.args.closed && eqb (c.loop-j.j + 1) c.segment_count-n.result =
     elim c.if-closed.branch [
       | then-closed w ↦ grind (arith, common_steps)
       | else-closed w ↦ grind (arith, common_steps)
     ] in
     let e =
     free_told l c.loop-j.j c.segment_count-n.result c.args.closed c.point_at-end.result c.point_at-a.result
-    c.point_at-b.result all taken c.point_at.ensures.0 c.point_at-in-loop-j.ensures.0 m c.then_some.ensures
+    c.point_at-b.result all taken c.point_at.ensures.0 c.point_at-in-loop-j.ensures.0 m c.end_of.ensures
     c.segments_wrong.ensures c.if-segments_wrong.true in
     sym (free_hit l _ all taken _ _ _ e) ∙ c.loop-j.invariant.1
 
@@ -31,13 +31,13 @@ loop-j-preserved c =
     let l = c.args.c.now in
     let all = c.segment_count-n.ensures.0 in
     let taken = c.loop-j-test.true in
-    let m : c.if-closed.then_some ≡ c.args.closed && eqb (c.loop-j.j + 1) c.segment_count-n.result =
+    let m : c.if-closed.end_of ≡ c.args.closed && eqb (c.loop-j.j + 1) c.segment_count-n.result =
     elim c.if-closed.branch [
       | then-closed w ↦ grind (arith, common_steps)
       | else-closed w ↦ grind (arith, common_steps)
     ] in
     let e =
     free_told l c.loop-j.j c.segment_count-n.result c.args.closed c.point_at-end.result c.point_at-a.result
-    c.point_at-b.result all taken c.point_at.ensures.0 c.point_at-in-loop-j.ensures.0 m c.then_some.ensures
+    c.point_at-b.result all taken c.point_at.ensures.0 c.point_at-in-loop-j.ensures.0 m c.end_of.ensures
     c.segments_wrong.ensures c.if-segments_wrong.false in
     (omega arith, sym (free_miss l _ all taken _ _ _ e) ∙ c.loop-j.invariant.1)

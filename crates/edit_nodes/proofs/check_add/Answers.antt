@@ -1,10 +1,5 @@
 -- `edit_nodes::check_add` meets its contract: 4 where a face is given that is not found, else a reason of the point.
 -- Assumes nothing.
-use Rattle.std.specs.Prelude.{Some, None}
-use native.Mathlib.Omega.{arith}
-use Rattle.outcomes.proofs.Results.{handed_number}
-use Rattle.map.specs.Refusals.{number}
-use Rattle.map.specs.declared.Refusal.TheVariants.{NoSuchRow}
 use mathlib.Core.Path.{◌≡◌, sym, ap, ◌∙◌}
 use mir.Syntax.{w64}
 use mir.Facts.{to_z-of_z}
@@ -23,22 +18,11 @@ returns-then-is_none c =
     ∙ face_not_given c.requires c.args.face c.args.x c.args.y
     (ap minus_one (sym (to_z-of_z {w = w64} c.ranges.face)) ∙ sym c.is_none.ensures ∙ c.if-is_none.true)
 
--- a face is there where `ok_or` answers Ok, and 4 is its other answer
-some_of_ok : (c : goal.After-check_point-2) → c.find_row.result ≡ Some c.in_ok-ok_or.field-0
-some_of_ok c = grind arith
-
-none_of_err : (c : goal.After-from_residual) → c.find_row.result ≡ None
-none_of_err c = grind arith
-
-refusal : (c : goal.After-from_residual) → c.in_err-ok_or.field-0.0 ≡ NoSuchRow
-refusal c = grind arith
-
-pub returns-in_err-ok_or : goal.returns-in_err-ok_or
-returns-in_err-ok_or c =
-    handed_number _ _ c.from_residual.ensures.1 ∙ ap number (refusal c)
-    ∙ face_missing c.requires c.args.face c.args.x c.args.y
+pub returns-in_default : goal.returns-in_default
+returns-in_default c =
+    face_missing c.requires c.args.face c.args.x c.args.y
     (place_told face_width c.args.faces.now (faces_read (counted c.requires) c.to_usize-n.ensures)
-    (to_z-of_z {w = w64} c.ranges.face) c.find_row.ensures (none_of_err c))
+    (to_z-of_z {w = w64} c.ranges.face) c.find_row.ensures c.in_default.is)
     (ap minus_one (sym (to_z-of_z {w = w64} c.ranges.face)) ∙ sym c.is_none.ensures ∙ c.if-is_none.false)
 
 pub returns : goal.returns
@@ -46,7 +30,7 @@ returns c =
     point_told _ c.ranges.x c.ranges.y c.check_point-2.ensures
     ∙ face_there c.requires c.args.face c.args.x c.args.y
     (place_told face_width c.args.faces.now (faces_read (counted c.requires) c.to_usize-n.ensures)
-    (to_z-of_z {w = w64} c.ranges.face) c.find_row.ensures (some_of_ok c))
+    (to_z-of_z {w = w64} c.ranges.face) c.find_row.ensures c.in-Some.is)
 
 pub to_usize-n-requires : goal.to_usize-n-requires
 to_usize-n-requires c = faces_natural (counted c.requires)

@@ -1,5 +1,5 @@
 -- `form_rectangles::has_box` meets its contract. Assumes nothing.
-use borrow.Author.Rules.{rules, sfits_of}
+use borrow.Author.Rules.{sfits_of}
 use mathlib.Core.Bool.{◌&&◌}
 use lib.Dec.{lit<}
 use Rattle.form_rectangles.proofs.Rows.{cell_tested}

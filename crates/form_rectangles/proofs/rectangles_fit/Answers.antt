@@ -1,6 +1,5 @@
 -- `form_rectangles::rectangles_fit` meets its contract. Assumes nothing.
-use borrow.Author.Rules.{rules}
-use mathlib.Core.Path.{refl, sym, ap, ◌∙◌, subst}
+use mathlib.Core.Path.{sym, ap, ◌∙◌, subst}
 use native.Mathlib.Omega.{arith}
 use Rattle.lists.specs.Scans.{all_of}
 use Rattle.tables.specs.Tables.{row_at}
@@ -23,7 +22,6 @@ take_edges-requires c = (
   c.requires.2,
   c.requires.4,
   (λ p h. omega (arith, (c.requires.5 p h).0, c.requires.3)),
-  none_taken 1000,
 )
 
 pub rows_fit-requires : goal.rows_fit-requires
@@ -32,7 +30,8 @@ rows_fit-requires c =
       c.requires.3,
       c.requires.1.fits,
       (λ k h. subst Bounded
-          (sym (c.take_edges.ensures a.faces.now a.n c.requires.1 c.requires.3 c.requires.5 k h))
+          (sym (c.take_edges.ensures a.faces.now a.n c.requires.1 c.requires.3
+          (none_taken _ c.empty_boxes.ensures) c.requires.5 k h))
           (rows_bounded (edges_ranged c.requires.0) (face_at a.faces.now k))),
     )
 
@@ -45,6 +44,7 @@ returns c =
     ∙ all_alike _ (has_box (rectangle es)) (row_at face_width l) 0 a.n (λ k g h.
     ap (λ (e : Extent). has_box (λ f. e) (row_at face_width l k))
     (ap (settled_for (face_at l k))
-    (c.take_edges.ensures l a.n c.requires.1 c.requires.3 c.requires.5 k (omega arith))
+    (c.take_edges.ensures l a.n c.requires.1 c.requires.3 (none_taken _ c.empty_boxes.ensures) c.requires.5 k
+    (omega arith))
     ∙ rectangle_is c.requires.0 (face_at l k)))
     ∙ ap (all_of (has_box (rectangle es))) (sym (rows-table face_width l a.n))
